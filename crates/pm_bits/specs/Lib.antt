@@ -1,0 +1,9 @@
+pub mod Word
+pub mod Arithmetic
+pub mod Bitwise
+pub mod Comparison
+pub mod Parts
+pub mod Operator
+pub mod BitLaws
+pub mod PartLaws
+pub mod WordLaws
