@@ -1,0 +1,15 @@
+pub mod Causes
+pub mod Known
+pub mod Streams
+pub mod Stores
+pub mod Lines
+pub mod Reading
+pub mod Buffering
+pub mod LineBuffer
+pub mod Calls
+pub mod Memory
+pub mod StoreLogs
+pub mod MemoryFiles
+pub mod MemoryStores
+pub mod HostStores
+pub mod Sure

@@ -1,0 +1,87 @@
+//! Files by name.
+ghost use Rattle.std.specs.Prelude.{◌≡◌, ◌<◌, ℕ, List, Option, None, IsSome, IfSome, length};
+ghost use Rattle.pm_io.specs.Stores.{HasStoreCause, Loads, Makes, told_of};
+ghost use Rattle.pm_io.specs.Streams.{Puts};
+
+use crate::sink::Put;
+
+/// What a load gave.
+#[derive(Clone, Copy, Debug, PartialEq, Eq)]
+pub enum Loaded {
+    /// The whole content.
+    All,
+    /// The content is longer than the limit.
+    TooLarge,
+    /// The file is missing, or couldn't be read.
+    Failed,
+    /// Memory ran out.
+    NoMemory,
+}
+
+/// What became of a file that was to be created.
+#[derive(Clone, Copy, Debug, PartialEq, Eq)]
+pub enum Made {
+    /// It is there, empty, and the store's current file.
+    Done,
+    /// It couldn't be created.
+    Failed,
+    /// Memory ran out.
+    NoMemory,
+}
+
+/// The calls of a store that may fail.
+#[derive(Clone, Copy, Debug, PartialEq, Eq)]
+pub enum StoreCall {
+    Load,
+    Create,
+    Append,
+}
+
+/// A set of files by name, as a file system. A name is a list of bytes.
+pub trait Store {
+    ghost use Rattle.std.specs.Prelude.{List, Option, ℕ};
+    ghost use Rattle.pm_io.specs.Stores.{Call, Files};
+
+    /// The files but the current one, where it tells them.
+    ghost files: { Self → Option Files };
+
+    /// The name of the current file, the one that was created, if there is one.
+    ghost current: { Self → Option (List ℕ) };
+
+    /// The bytes of the current file, where it tells them.
+    ghost written: { Self → Option (List ℕ) };
+
+    /// The last call that failed, with the name of its file.
+    ghost last_fault: { Self → Option Call };
+
+    /// How often a call has failed. The count never falls.
+    ghost faults: { Self → ℕ };
+
+    /// Reads the file of this name whole, where it has at most `limit` bytes. `into` is emptied first;
+    /// unless the answer is `All`, nothing is said of what it holds then.
+    fn load(&mut self, name: &[u8], limit: usize, into: &mut Vec<u8>) -> Loaded
+        ensures content { Loads (told_of (files self.old) (current self.old) (written self.old) name.now) limit into.new.items result }
+        ensures files { files self.new ≡ files self.old }
+        ensures current { current self.new ≡ current self.old }
+        ensures written { written self.new ≡ written self.old }
+        ensures cause { HasStoreCause (faults self.old) (faults self.new) (last_fault self.old) (last_fault self.new)
+            (result ≡ Loaded.Failed) (name.now, StoreCall.Load) };
+
+    /// Makes an empty file of this name the current file, which it stays for good.
+    fn create(&mut self, name: &[u8]) -> Made
+        requires { current self.old ≡ None }
+        ensures file { Makes (files self.old) (files self.new) (current self.new) (written self.new) name.now result }
+        ensures cause { HasStoreCause (faults self.old) (faults self.new) (last_fault self.old) (last_fault self.new)
+            (result ≡ Made.Failed) (name.now, StoreCall.Create) };
+
+    /// Adds the piece at the end of the current file.
+    fn append(&mut self, piece: &[u8]) -> Put
+        requires current { IsSome (current self.old) }
+        requires some { 0 < length piece.now }
+        ensures bytes { Puts (written self.old) (written self.new) piece.now result }
+        ensures files { files self.new ≡ files self.old }
+        ensures same_current { current self.new ≡ current self.old }
+        ensures cause { IfSome (current self.old) (λ name.
+            HasStoreCause (faults self.old) (faults self.new) (last_fault self.old) (last_fault self.new)
+            (result ≡ Put.Failed) (name, StoreCall.Append)) };
+}
