@@ -1,0 +1,87 @@
+-- The text of ports, one after another.
+use Rattle.std.proofs.Common.{◌≡◌, ◌∙◌, ◌<◌, ◌+◌, ◌-◌, ◌*◌, ◌/◌, ◌%◌, ◌^◌, ◌++◌, ℕ, zero, suc, Bool, true, false, List, [], ◌∷◌, length, drop, get_or, refl, ap, ap₂, sym, append_assoc, drop-cons, add-one, arith}
+use Rattle.std.specs.Prelude.{slice_index, if◌then◌else◌}
+use Rattle.std.specs.Prelude.{Option}
+use Rattle.pm_bits.specs.Word.{Word}
+use Rattle.pm_io.specs.Buffering.{Queues}
+use Rattle.pm_io.specs.declared.sink.Put.{Put}
+use Rattle.pm_io.specs.declared.sink.Put.TheVariants as put
+use Rattle.pm_io.proofs.Waiting.{queues_on, queues_in_longer}
+use Rattle.pm_design.specs.declared.signal.Signal.{Signal}
+use Rattle.pm_job.specs.declared.trace_text.TheConstants.{BLANK, HEX_DIGITS}
+use Rattle.pm_job.specs.Trace.{is_port, port_name, port_value, port_names, port_values, hex_of, hex_digits}
+
+-- what a port shows, and what a wire
+pub port_name-port : (signal : Signal) → is_port signal.role ≡ true → port_name signal ≡ (BLANK ∷ []) ++ signal.name
+port_name-port signal shown = ap (λ (b : Bool). if b then BLANK ∷ signal.name else []) shown
+
+pub port_name-wire : (signal : Signal) → is_port signal.role ≡ false → port_name signal ≡ []
+port_name-wire signal hidden = ap (λ (b : Bool). if b then BLANK ∷ signal.name else []) hidden
+
+pub port_value-port : (signal : Signal) (value : Word) → is_port signal.role ≡ true → port_value signal value ≡ (BLANK ∷ []) ++ hex_of value
+port_value-port signal value shown = ap (λ (b : Bool). if b then BLANK ∷ hex_of value else []) shown
+
+pub port_value-wire : (signal : Signal) (value : Word) → is_port signal.role ≡ false → port_value signal value ≡ []
+port_value-wire signal value hidden = ap (λ (b : Bool). if b then BLANK ∷ hex_of value else []) hidden
+
+-- the names from one place on begin with that signal's
+pub port_names-drop : (signals : List Signal) (place : ℕ) (signal : Signal) → place < length signals → signal ≡ get_or signals place signal
+    → port_names (drop place signals) ≡ port_name signal ++ port_names (drop (place + 1) signals)
+port_names-drop signals place signal within is =
+    ap port_names (drop-cons signals place signal within)
+    ∙ ap₂ (λ (s : Signal) (n : ℕ). port_name s ++ port_names (drop n signals)) (sym is) (sym (add-one place))
+
+-- the values from one place on begin with that signal's
+pub port_values-drop : (signals : List Signal) (values : List Word) (place : ℕ) (signal : Signal) (value : Word) → place < length signals → place < length values
+    → signal ≡ get_or signals place signal → value ≡ get_or values place value
+    → port_values (drop place signals) (drop place values) ≡ port_value signal value ++ port_values (drop (place + 1) signals) (drop (place + 1) values)
+port_values-drop signals values place signal value within inside is has =
+    ap₂ port_values (drop-cons signals place signal within) (drop-cons values place value inside)
+    ∙ (ap₂ (λ (s : Signal) (v : Word). port_value s v ++ port_values (drop (suc place) signals) (drop (suc place) values)) (sym is) (sym has)
+    ∙ ap (λ (n : ℕ). port_value signal value ++ port_values (drop n signals) (drop n values)) (sym (add-one place)))
+
+-- the digits begin with the highest one
+pub hex_digits-next : (left number : ℕ) → 0 < left
+    → hex_digits left number ≡ slice_index HEX_DIGITS (number / 2 ^ (4 * (left - 1)) % 16) ∷ hex_digits (left - 1) number
+hex_digits-next zero number some = absurd (omega arith)
+hex_digits-next (suc n) number some =
+    let less : n ≡ suc n - 1 = omega arith in
+    ap (λ (k : ℕ). slice_index HEX_DIGITS (number / 2 ^ (4 * k) % 16) ∷ hex_digits k number) less
+
+-- one more part is done, of a text that is done part by part
+pub goes_on : (done part rest rest' whole : List ℕ) → done ++ rest ≡ whole → rest ≡ part ++ rest' → (done ++ part) ++ rest' ≡ whole
+goes_on done part rest rest' whole is splits = append_assoc done part rest' ∙ (ap (λ (xs : List ℕ). done ++ xs) (sym splits) ∙ is)
+
+-- a text was queued, and with the rest it makes the whole
+abbrev pub Queued : Option (List ℕ) → Option (List ℕ) → List ℕ → List ℕ → List ℕ → List ℕ → Type 0
+Queued old now waiting waiting' rest whole = (text : List ℕ) × Queues old now waiting waiting' text put.All × (text ++ rest ≡ whole)
+
+-- the rest begins with a part, which was queued too
+pub queued_more : (old mid new : Option (List ℕ)) (waiting waiting' waiting'' part rest rest' whole : List ℕ) → Queued old mid waiting waiting' rest whole
+    → rest ≡ part ++ rest' → Queues mid new waiting' waiting'' part put.All → Queued old new waiting waiting'' rest' whole
+queued_more old mid new waiting waiting' waiting'' part rest rest' whole done splits more =
+    (done.0 ++ part, queues_on old mid new waiting waiting' waiting'' done.0 part (done.0 ++ part) put.All refl done.1 more, goes_on done.0 part rest rest' whole done.2 splits)
+
+-- the rest begins with a part, of which a front may have gone out
+pub queued_failed : (old mid new : Option (List ℕ)) (waiting waiting' waiting'' part rest rest' whole : List ℕ) → Queued old mid waiting waiting' rest whole
+    → rest ≡ part ++ rest' → Queues mid new waiting' waiting'' part put.Failed → Queues old new waiting waiting'' whole put.Failed
+queued_failed old mid new waiting waiting' waiting'' part rest rest' whole done splits more =
+    queues_in_longer old new waiting waiting'' waiting'' (done.0 ++ part) rest' whole (sym (goes_on done.0 part rest rest' whole done.2 splits))
+    (queues_on old mid new waiting waiting' waiting'' done.0 part (done.0 ++ part) put.Failed refl done.1 more)
+
+-- a line of three parts, of which the first failed, the second failed, or two are queued
+pub line_at_first : (old new : Option (List ℕ)) (waiting waiting' a b d whole : List ℕ) → whole ≡ (a ++ b) ++ d
+    → Queues old new waiting waiting' a put.Failed → Queues old new waiting waiting' whole put.Failed
+line_at_first old new waiting waiting' a b d whole is one =
+    queues_in_longer old new waiting waiting' waiting' a (b ++ d) whole (is ∙ append_assoc a b d) one
+
+pub line_at_second : (old mid new : Option (List ℕ)) (waiting waiting' waiting'' a b d whole : List ℕ) → whole ≡ (a ++ b) ++ d
+    → Queues old mid waiting waiting' a put.All → Queues mid new waiting' waiting'' b put.Failed → Queues old new waiting waiting'' whole put.Failed
+line_at_second old mid new waiting waiting' waiting'' a b d whole is one two =
+    queues_in_longer old new waiting waiting'' waiting'' (a ++ b) d whole is (queues_on old mid new waiting waiting' waiting'' a b (a ++ b) put.Failed refl one two)
+
+pub line_at_third : (old mid late new : Option (List ℕ)) (waiting waiting' waiting'' waiting''' a b d whole : List ℕ) (result : Put) → whole ≡ (a ++ b) ++ d
+    → Queues old mid waiting waiting' a put.All → Queues mid late waiting' waiting'' b put.All → Queues late new waiting'' waiting''' d result
+    → Queues old new waiting waiting''' whole result
+line_at_third old mid late new waiting waiting' waiting'' waiting''' a b d whole result is one two three =
+    queues_on old late new waiting waiting'' waiting''' (a ++ b) d whole result is (queues_on old mid late waiting waiting' waiting'' a b (a ++ b) put.All refl one two) three

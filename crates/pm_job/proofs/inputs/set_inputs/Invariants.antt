@@ -1,0 +1,6 @@
+use Rattle.pm_job.proofs.RowValues.{IsPutTo}
+use Rattle.pm_job.proofs.inputs.set_inputs.Given as goal
+
+-- the inputs of the signals so far have their values
+abbrev pub invariant-loop-place : goal.invariant-loop-place
+invariant-loop-place l = IsPutTo l.signals l.fn.values l.row l.place l.next l.values

@@ -1,0 +1,6 @@
+use Rattle.std.proofs.Common.{◌≡◌, drop}
+use Rattle.pm_job.specs.Form.{names_differ}
+use Rattle.pm_job.proofs.soundness.names_differ.Given as goal
+
+abbrev pub invariant-loop-place : goal.invariant-loop-place
+invariant-loop-place l = names_differ l.signals (drop l.place l.blocks) ≡ names_differ l.signals l.blocks

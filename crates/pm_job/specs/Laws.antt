@@ -1,0 +1,28 @@
+-- What holds of the equations of a cycle: blocks in order solve them, nothing else does, and their order says no more.
+use Rattle.std.specs.Prelude.{◌≡◌, true, List, length, All, Contains}
+use Rattle.pm_bits.specs.Word.{Word}
+use Rattle.pm_job.specs.declared.component.Assignment.{Assignment}
+use Rattle.pm_job.specs.Form.{targets_differ}
+use Rattle.pm_job.specs.Precedence.{HasLoop}
+use Rattle.pm_job.specs.Progress.{after_blocks}
+use Rattle.pm_job.specs.Reads.{is_ordered, AssignWithin}
+use Rattle.pm_job.specs.Settled.{IsSettled}
+
+-- the values after blocks that ran in order solve the equations
+abbrev pub OrderedSettles : Type 0
+OrderedSettles = (blocks : List Assignment) (start : List Word) → is_ordered blocks ≡ true → targets_differ blocks ≡ true
+    → AssignWithin (length start) blocks → IsSettled blocks start (after_blocks blocks start)
+
+-- the equations of blocks without a loop have one solution and no other, in whatever order the blocks are written
+abbrev pub OneSolution : Type 0
+OneSolution = (blocks : List Assignment) (start : List Word) → (HasLoop blocks → ⊥) → targets_differ blocks ≡ true → AssignWithin (length start) blocks
+    → (settled : List Word) × IsSettled blocks start settled × ((other : List Word) → IsSettled blocks start other → other ≡ settled)
+
+-- each block of one list is in the other
+abbrev pub HaveSameBlocks : List Assignment → List Assignment → Type 0
+HaveSameBlocks blocks blocks' = All (Contains blocks') blocks × All (Contains blocks) blocks'
+
+-- the same blocks in another order have the same solutions
+abbrev pub SettledPermuted : Type 0
+SettledPermuted = (blocks blocks' : List Assignment) (start settled : List Word) → HaveSameBlocks blocks blocks'
+    → IsSettled blocks start settled → IsSettled blocks' start settled

@@ -1,0 +1,17 @@
+pub mod Form
+pub mod Sound
+pub mod Settled
+pub mod Values
+pub mod Trace
+pub mod CommandLine
+pub mod Vectors
+pub mod Input
+pub mod Answers
+pub mod Progress
+pub mod Spelling
+pub mod Words
+pub mod Codes
+pub mod Endings
+pub mod Reads
+pub mod Laws
+pub mod Precedence

@@ -1,0 +1,71 @@
+-- The spelling of the narrow form: names, numbers, and the parts of a line.
+use Rattle.std.specs.Prelude.{ℕ, ◌^◌, Bool, not, ◌&&◌, ◌||◌, ◌==◌, nat_lt, nat_le, if◌then◌else◌, List, [], ◌∷◌, length, slice_index, codes, Option, Some, None, option_map}
+use Rattle.std.specs.Option.{option_and_then}
+use Rattle.std.specs.List.{list_all, list_any}
+use Rattle.std.specs.Char.{is_ascii_alphabetic, is_ascii_alphanumeric}
+use Rattle.std.specs.Str.{bytes_eq}
+use Rattle.pm_bits.specs.declared.operator.Op.{Op}
+use Rattle.pm_bits.specs.declared.operator.Op.TheVariants as op
+use Rattle.pm_bits.specs.Word.{Word}
+use Rattle.pm_design.specs.declared.signal.Role.{Role}
+use Rattle.pm_design.specs.declared.signal.Role.TheVariants as role
+use Rattle.pm_job.specs.Words.{is_blank, number_below}
+use Rattle.pm_job.specs.Sound.{is_width}
+use Rattle.pm_job.specs.declared.spelling.TheConstants.{KEYWORDS}
+
+-- what the second step makes of what the first one gives
+infixr 6 ◌and_then◌
+abbrev pub ◌and_then◌ : {A B : Type 0} → Option A → (A → Option B) → Option B
+first and_then second = option_and_then second first
+
+-- the text before the first blank, and the text behind it
+unfoldable pub cut : List ℕ → Option (List ℕ × List ℕ)
+cut [] = None
+cut (byte ∷ text) = if is_blank byte then Some ([], text) else option_map (λ parts. (byte ∷ parts.0, parts.1)) (cut text)
+
+-- a letter or an underscore
+abbrev pub starts_name : ℕ → Bool
+starts_name byte = is_ascii_alphabetic byte || byte == 95
+
+-- a letter, a digit or an underscore
+abbrev pub continues_name : ℕ → Bool
+continues_name byte = is_ascii_alphanumeric byte || byte == 95
+
+-- a word of the language, which is no name
+unfoldable pub is_keyword : List ℕ → Bool
+is_keyword word = list_any (λ keyword. bytes_eq keyword.now word) KEYWORDS
+
+-- a letter or an underscore, then letters, digits and underscores, 64 at most and no keyword
+unfoldable pub is_name : List ℕ → Bool
+is_name word =
+    ((starts_name (slice_index word 0) && list_all continues_name word) && nat_le (length word) 64) && not (is_keyword word)
+
+-- a name that a signal or a block may be given
+unfoldable pub is_new_name : List ℕ → Bool
+is_new_name word = (is_name word && not (bytes_eq word (codes "clk"))) && not (bytes_eq word (codes "reset"))
+
+-- the number that a word writes in decimal digits without needless zeros, where it is below the bound
+unfoldable pub numeral_below : ℕ → List ℕ → Option ℕ
+numeral_below bound word = if slice_index word 0 == 48 && nat_lt 1 (length word) then None else number_below bound word
+
+-- the value of a width, where there is one
+unfoldable pub value_where_it_fits : ℕ → ℕ → Option Word
+value_where_it_fits width number =
+    if is_width width && nat_lt number (2 ^ width) then Some (record { width = width; value = number }) else None
+
+-- the role that a kind of port gives
+unfoldable pub role_of : List ℕ → Option Role
+role_of word =
+    if bytes_eq word (codes "InPort(") then Some role.Input
+    else if bytes_eq word (codes "OutPort(") then Some role.Output
+    else if bytes_eq word (codes "Wire(") then Some role.Inner
+    else None
+
+-- the operator that a sign stands for
+unfoldable pub operator_of : List ℕ → Option Op
+operator_of word =
+    if bytes_eq word (codes "+") then Some op.Add
+    else if bytes_eq word (codes "&") then Some op.And
+    else if bytes_eq word (codes "|") then Some op.Or
+    else if bytes_eq word (codes "^") then Some op.Xor
+    else None

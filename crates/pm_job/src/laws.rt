@@ -1,0 +1,17 @@
+//! Laws of the equations of a cycle, each proved once: no code calls them.
+ghost use Rattle.pm_job.specs.Laws.{OneSolution, OrderedSettles, SettledPermuted};
+
+/// The values after blocks that ran in order solve the equations.
+pub fn ordered_blocks_settle()
+    ensures { OrderedSettles }
+{}
+
+/// The equations of blocks without a loop have one solution and no other, in whatever order the blocks are written.
+pub fn blocks_without_a_loop_have_one_solution()
+    ensures { OneSolution }
+{}
+
+/// The same blocks in another order have the same solutions.
+pub fn order_of_blocks_leaves_solutions()
+    ensures { SettledPermuted }
+{}
