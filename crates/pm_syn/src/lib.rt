@@ -1,0 +1,31 @@
+//! The text of a design file: its tokens and logical lines, and the types of the syntax tree that they make.
+//!
+//! `lex` reads a text into its logical lines, or names the first fault of the text. A text has at most one of these
+//! answers, and `laws` carries that. The syntax tree is data alone; the parser makes it.
+#![tactic(auto)]
+
+mod bracket;
+#[cfg(test)]
+mod design_tests;
+mod draft;
+mod expression;
+mod fault;
+mod indentation;
+pub mod laws;
+mod lexeme;
+mod lexing;
+mod number;
+mod operator;
+mod place;
+mod reader;
+mod statement;
+mod string;
+#[cfg(test)]
+mod tests;
+mod token;
+
+pub use expression::{Arg, BinaryOp, Expr, UnaryOp};
+pub use fault::TextFault;
+pub use lexing::lex;
+pub use statement::{AssignOp, File, Node, Par, Stmt};
+pub use token::{Line, Token, TokenKind};
