@@ -9,35 +9,8 @@ top=$(cd "$(dirname "$(readlink -f "$0")")/.." && pwd)
 command=${1:-$top/pymtl}
 folder=$(mktemp -d)
 trap 'rm -rf "$folder"' EXIT
-
-# The most memory of a process so far, in KiB, while it runs; the last line of the file is the last that was seen.
-watch_memory() {
-    while [ -e "/proc/$1" ]; do
-        awk '/^VmHWM/ { print $2 }' "/proc/$1/status" 2>/dev/null || true
-        sleep 0.02
-    done
-}
-
-# Runs the command on the vectors, and prints its seconds and its most memory in KiB.
-measure() {
-    local vectors=$1
-    if [ -x /usr/bin/time ]; then
-        # The format stands in for the long report of `time -v`, of which it prints two lines.
-        /usr/bin/time -f '%e %M' -o "$folder/figures" \
-            "$command" sim "$top/examples/add.py" Add <"$vectors" >"$folder/trace"
-        tail -n 1 "$folder/figures"
-        return
-    fi
-    local begun ended
-    begun=$(date +%s.%N)
-    "$command" sim "$top/examples/add.py" Add <"$vectors" >"$folder/trace" &
-    local process=$!
-    watch_memory "$process" >"$folder/memory" &
-    wait "$process"
-    ended=$(date +%s.%N)
-    wait "$!"
-    awk -v begun="$begun" -v ended="$ended" 'END { printf "%.2f %s\n", ended - begun, $1 }' "$folder/memory"
-}
+# shellcheck source=bench/measure.sh
+. "$top/bench/measure.sh"
 
 # The longest input first, of which the others are the front: a header, and then one row on each line.
 awk 'BEGIN { print "a b"; for (n = 0; n < 2 ^ 20; n++) print n % 256, int(n / 256) % 256 }' >"$folder/all"
@@ -49,12 +22,12 @@ printf '%8s %9s %11s\n' rows seconds memory/KiB
 for power in 10 15 20; do
     rows=$((2 ** power))
     head -n $((rows + 1)) "$folder/all" >"$folder/vectors"
-    figures=$(measure "$folder/vectors")
+    measure "$folder" "$command" sim "$top/examples/add.py" Add <"$folder/vectors" >"$folder/trace"
     lines=$(wc -l <"$folder/trace")
     if [ "$lines" -ne $((rows + 3)) ]; then
         echo "bench/rows.sh: $lines lines of trace for $rows rows" >&2
         exit 1
     fi
-    # shellcheck disable=SC2086
-    printf '%8d %9s %11s\n' "$rows" $figures
+    read -r seconds memory <"$folder/figures"
+    printf '%8d %9s %11s\n' "$rows" "$seconds" "$memory"
 done
