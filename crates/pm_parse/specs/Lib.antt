@@ -1,0 +1,14 @@
+pub mod Marks
+pub mod Levels
+pub mod Expressions
+pub mod Fronts
+pub mod Reading
+pub mod Operations
+pub mod Suffixes
+pub mod Depths
+pub mod Statements
+pub mod Brackets
+pub mod Laws
+pub mod Answers
+pub mod ExpressionStatements
+pub mod Headers
