@@ -4,8 +4,8 @@
 
 mod tree_text;
 
+use pm_grammar::parse_line;
 use pm_io::{HostStore, Loaded, Store};
-use pm_parse::parse_line;
 use pm_syn::{Line, lex};
 use std::alloc::{AllocError, Global};
 use std::{env, io};

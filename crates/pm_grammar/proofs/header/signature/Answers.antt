@@ -1,0 +1,49 @@
+use Rattle.std.proofs.Common.{◌∙◌, ap, sym}
+use Rattle.pm_syn.specs.declared.statement.Par.{Par}
+use Rattle.pm_grammar.specs.Reading.{read_of}
+use Rattle.pm_grammar.proofs.Signatures.{goes_first, goes_next, next_found, no_next, no_self_found, no_self_only, self_found, signature_found, signature_only, trailing_found, trailing_only}
+use Rattle.pm_grammar.proofs.header.signature.Goals as goal
+
+pub returns-in_default-clause-found : goal.returns-in_default-clause-found
+returns-in_default-clause-found c =
+    rw c.new-parameters.ensures (no_self_found c.args.tokens.now)
+
+pub returns-in_default-clause-only : goal.returns-in_default-clause-only
+returns-in_default-clause-only c =
+    rw c.new-parameters.ensures (no_self_only c.args.tokens.now c.in_default.ensures)
+
+pub parameters-init : goal.parameters-init
+parameters-init c =
+    record {
+      found = rw c.new-parameters.ensures (self_found c.args.tokens.now c.in-Some.rest.now c.in-Some.ensures);
+      only = rw c.new-parameters.ensures (goes_first c.args.tokens.now c.in-Some.rest.now c.in-Some.ensures);
+    }
+
+pub returns-then-begins_with_mark-clause-found : goal.returns-then-begins_with_mark-clause-found
+returns-then-begins_with_mark-clause-found c =
+    trailing_found c.args.tokens.now c.parameters.rest.now c.in-Some-after_mark.behind.now c.parameters.parameters c.parameters.invariant.found c.in-Some-after_mark.ensures
+
+pub returns-then-begins_with_mark-clause-only : goal.returns-then-begins_with_mark-clause-only
+returns-then-begins_with_mark-clause-only c =
+    trailing_only c.args.tokens.now c.parameters.rest.now c.in-Some-after_mark.behind.now c.parameters.parameters c.parameters.invariant.only c.in-Some-after_mark.ensures (sym c.begins_with_mark.ensures ∙ c.if-begins_with_mark.true)
+
+pub returns-in_default-2-clause-only : goal.returns-in_default-2-clause-only
+returns-in_default-2-clause-only c =
+    no_next c.args.tokens.now c.parameters.rest.now c.in-Some-after_mark.behind.now c.parameters.parameters (read_of c.in_ok-parameter.field-0) c.parameters.invariant.only c.in-Some-after_mark.ensures (sym c.begins_with_mark.ensures ∙ c.if-begins_with_mark.false) c.in_ok-parameter.ensures.only (ap (read_of {A = Par}) c.in_default-2.is)
+
+pub parameters-preserved : goal.parameters-preserved
+parameters-preserved c =
+    let spelled = rw c.in-Some-2.is at c.in_ok-parameter.ensures.found in
+    let pushed = c.in_ok-push.ensures.ok in
+    record {
+      found = rw pushed (next_found c.args.tokens.now c.parameters.rest.now c.in-Some-after_mark.behind.now c.in-Some-2.after.now c.parameters.parameters c.in-Some-2.parameter c.parameters.invariant.found c.in-Some-after_mark.ensures spelled);
+      only = rw pushed (goes_next c.args.tokens.now c.parameters.rest.now c.in-Some-after_mark.behind.now c.in-Some-2.after.now c.parameters.parameters c.in-Some-2.parameter (read_of c.in_ok-parameter.field-0) c.parameters.invariant.only c.in-Some-after_mark.ensures (sym c.begins_with_mark.ensures ∙ c.if-begins_with_mark.false) c.in_ok-parameter.ensures.only (ap (read_of {A = Par}) c.in-Some-2.is));
+    }
+
+pub returns-clause-found : goal.returns-clause-found
+returns-clause-found c =
+    signature_found c.args.tokens.now c.parameters.rest.now c.parameters.parameters c.parameters.invariant.found
+
+pub returns-clause-only : goal.returns-clause-only
+returns-clause-only c =
+    signature_only c.args.tokens.now c.parameters.rest.now c.parameters.parameters c.parameters.invariant.only c.in_default-after_mark.ensures

@@ -1,5 +1,0 @@
-use Rattle.pm_parse.proofs.OneExpression as law
-use Rattle.pm_parse.proofs.laws.tokens_spell_one_expression.Goals as goal
-
-pub returns : goal.returns
-returns c = law.tokens_spell_one_expression

@@ -1,6 +1,0 @@
-use Rattle.std.proofs.Common.{◌≡◌, drop}
-use Rattle.pm_parse.specs.Operations.{first_of}
-use Rattle.pm_parse.proofs.operator.first_of.Given as goal
-
-abbrev pub invariant-loop-at : goal.invariant-loop-at
-invariant-loop-at l = first_of (drop l.at-index l.levels) l.token ≡ first_of l.levels l.token
