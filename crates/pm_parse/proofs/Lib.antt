@@ -1,0 +1,15 @@
+pub mod Answers
+pub mod ExpressionNames
+pub mod FileLines
+pub mod FileNames
+pub mod FirstFault
+pub mod KeptLines
+pub mod LastOnes
+pub mod OneAnswer
+pub mod OpenBodies
+pub mod OpenLines
+pub mod ProperNames
+pub mod SpelledExpressions
+pub mod SpelledStatements
+pub mod StatementNames
+pub mod Trees

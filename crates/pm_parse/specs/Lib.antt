@@ -1,0 +1,16 @@
+pub mod Enclosing
+pub mod ReadOver
+pub mod Entries
+pub mod OpenLines
+pub mod Forms
+pub mod Places
+pub mod Layout
+pub mod OpenBodies
+pub mod LinesBefore
+pub mod Faults
+pub mod Trees
+pub mod StackedTrees
+pub mod Answers
+pub mod Laws
+pub mod FileLines
+pub mod FileNames

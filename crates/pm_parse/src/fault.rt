@@ -1,0 +1,32 @@
+//! What may be wrong with the lines of a file.
+ghost use Rattle.std.specs.Prelude.{◌≡◌};
+
+use pm_io::NoMemory;
+use thiserror::Error;
+
+/// Why logical lines make no file. Each fault but the last names a line of the text, counted from 1.
+#[derive(Clone, Copy, Debug, Drop, Error, PartialEq, Eq)]
+pub enum ParseFault {
+    /// The line's tokens spell no statement.
+    #[error("line {0}: the line is no statement")]
+    Syntax(u32),
+    /// They spell one with an expression that is more than 64 deep.
+    #[error("line {0}: an expression is more than 64 deep")]
+    TooDeep(u32),
+    /// They spell one that may not stand there: below or before such lines, or at that column.
+    #[error("line {0}: no such line may stand there")]
+    Layout(u32),
+    /// Memory ran out.
+    #[error("out of memory")]
+    NoMemory,
+}
+
+impl From<NoMemory> for ParseFault {
+    ghost use Rattle.pm_parse.specs.declared.fault.ParseFault.TheVariants as fault;
+
+    ghost from_gives = { λ _ error. error ≡ fault.NoMemory };
+
+    fn from(_error: NoMemory) -> Self {
+        ParseFault::NoMemory
+    }
+}
