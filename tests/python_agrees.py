@@ -4,9 +4,11 @@ usage: python_agrees.py FILE                 prints what Python reads in the fil
        python_agrees.py --compare PROGRAM FILE..   compares, in the files and in lines made at random
 
 Each logical line is printed as its number and its statement: a list in parentheses of what it is and its parts. A line
-whose statement is outside the subset is `Syntax`, and one with an expression that is more than 64 deep is `TooDeep`.
+whose statement is outside the subset is `Syntax`, and one with an expression that is more than 64 deep is `TooDeep`. The
+last line is the tree of the lines: the numbers of those under a header stand in brackets behind its number, and the
+functions that print a component are left out.
 With `--compare` the lines that differ are printed, and the exit status is then 1. `crates/parse_lines/stdout` is what
-Python reads in `crates/parse_lines/data/queue.py`.
+Python reads in the files that `crates/parse_lines/args` names, one after the other.
 """
 
 import ast
@@ -234,6 +236,34 @@ class Reading:
                 self.says(number, lambda: simple(s))
 
 
+# The numbers of the lines, those under a header in brackets behind its own, without functions that print a component.
+def outline(text):
+    words = ["file"]
+    printed = [True]  # whether the lines at this indentation, and at those around it, are
+    left_out = set(printer_lines(ast.parse(text)))
+    first = True
+    for token in tokenize.generate_tokens(io.StringIO(text).readline):
+        number = token.start[0]
+        if token.type == tokenize.INDENT:
+            printed.append(number not in left_out)
+            words += ["["] * printed[-1]
+        elif token.type == tokenize.DEDENT:
+            words += ["]"] * printed.pop()
+        elif token.type == tokenize.NEWLINE:
+            first = True
+        elif first and token.type not in (tokenize.NL, tokenize.COMMENT, tokenize.ENDMARKER):
+            words += [str(number)] * (number not in left_out)
+            first = False
+    return " ".join(words)
+
+
+def printer_lines(tree):
+    for holder in (node for node in ast.walk(tree) if isinstance(node, ast.ClassDef)):
+        for s in holder.body:
+            if isinstance(s, ast.FunctionDef) and s.name in ("line_trace", "__str__"):
+                yield from range(s.lineno, s.end_lineno + 1)
+
+
 def class_line(name, bases, named, is_alone):
     within(is_alone and not named and len(bases) < 2 and all(isinstance(base, ast.Name) for base in bases))
     return ["class", name, bases[0].id if bases else "-"]
@@ -387,7 +417,8 @@ def line_reading(line):
 
 def file_reading(name):
     with open(name, encoding="utf-8") as file:
-        return [f"{number} {says}" for number, says in sorted(Reading(file.read()).lines.items())]
+        text = file.read()
+    return [f"{number} {says}" for number, says in sorted(Reading(text).lines.items())] + [outline(text)]
 
 
 def program_reading(program, name):
@@ -420,7 +451,8 @@ def compare(program, names):
     with tempfile.NamedTemporaryFile("w", suffix=".py") as file:
         file.write("\n".join(texts) + "\n")
         file.flush()
-        count += differences("a line made at random", python, program_reading(program, file.name), texts)
+        read = program_reading(program, file.name)[:-1]  # without the file's fault
+        count += differences("a line made at random", python, read, texts)
     print(f"{total} lines, {count} that differ", file=sys.stderr)
     return 1 if count else 0
 

@@ -1,6 +1,7 @@
 #!/usr/bin/env bash
-# Compares the statements that the program `parse_lines` reads with those that Python's own parser reads, in the designs
-# of examples/ and in lines made at random. Where `rt` is there, the program is proved and built first.
+# Compares the statements and the trees of lines that the program `parse_lines` reads with those that Python's own parser
+# reads: in the designs of examples/, and the statements in lines made at random too. Where `rt` is there, the program is
+# proved and built first.
 #
 # Where they differ, the lines that do are printed, and the exit status is 1, as where the program couldn't be built.
 # Where Python 3.10 or later isn't there, or the program isn't, nothing is compared, and the status is 0.

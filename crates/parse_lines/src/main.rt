@@ -1,11 +1,12 @@
-//! The program `parse_lines`: reads a file, and prints of each logical line its number and the statement that it spells
-//! or its fault; or else the fault of the text. `tests/python_agrees.sh` compares this with what Python reads.
+//! The program `parse_lines`: reads files, and prints of each logical line its number and the statement that it spells
+//! or its fault, and then the tree of the lines or the first fault of the file; or else the fault of the text.
+//! `tests/python_agrees.sh` compares this with what Python reads.
 #![tactic(auto)]
 
 mod tree_text;
 
-use pm_grammar::parse_line;
 use pm_io::{HostStore, Loaded, Store};
+use pm_parse::{parse, parse_line};
 use pm_syn::{Line, lex};
 use std::alloc::{AllocError, Global};
 use std::{env, io};
@@ -14,13 +15,21 @@ use std::{env, io};
 const LIMIT: usize = 1 << 21;
 
 fn main(rt: HostRuntime) -> io::Result<()> {
+    let arguments = env::args(&rt)?;
+    if arguments.len() < 2 {
+        return println!(rt; "usage: parse_lines FILE..");
+    }
+    for name in arguments.skip(1) {
+        print_file(&rt, name.as_bytes())?;
+    }
+    Ok(())
+}
+
+fn print_file(rt: &HostRuntime, name: &[u8]) -> io::Result<()> {
     let alloc = rt.alloc();
-    let Some(name) = env::args(&rt)?.nth(1) else {
-        return println!(rt; "usage: parse_lines FILE");
-    };
     let mut text = Vec::new(alloc);
-    let mut store = HostStore::new(alloc, &rt);
-    if store.load(name.as_bytes(), LIMIT, &mut text) != Loaded::All {
+    let mut store = HostStore::new(alloc, rt);
+    if store.load(name, LIMIT, &mut text) != Loaded::All {
         return println!(rt; "the file couldn't be read");
     }
     match lex(alloc, text.as_slice()) {
@@ -29,7 +38,8 @@ fn main(rt: HostRuntime) -> io::Result<()> {
                 let reading = reading_of(alloc, line)?;
                 rt.write_all(reading.as_slice())?;
             }
-            Ok(())
+            let tree = tree_of(alloc, lines.as_slice())?;
+            rt.write_all(tree.as_slice())
         }
         Err(fault) => println!(rt; "{fault}"),
     }
@@ -40,6 +50,17 @@ fn reading_of(alloc: Global, line: &Line) -> Result<Vec<u8>, AllocError> {
     let mut text = Vec::from_slice(alloc, format!(in alloc; "{}", line.number)?.as_bytes())?;
     match parse_line(alloc, line) {
         Ok(statement) => tree_text::write_statement(alloc, &statement, &mut text)?,
+        Err(fault) => text.extend_from_slice(format!(in alloc; " {fault:?}")?.as_bytes())?,
+    }
+    text.push(b'\n')?;
+    Ok(text)
+}
+
+// The word `file`, the tree of the lines or their first fault, and a line end.
+fn tree_of(alloc: Global, lines: &[Line]) -> Result<Vec<u8>, AllocError> {
+    let mut text = Vec::from_slice(alloc, b"file")?;
+    match parse(alloc, lines) {
+        Ok(file) => tree_text::write_nodes(alloc, file.nodes.as_slice(), &mut text)?,
         Err(fault) => text.extend_from_slice(format!(in alloc; " {fault:?}")?.as_bytes())?,
     }
     text.push(b'\n')?;

@@ -1,12 +1,33 @@
 //! Trees as texts.
 //!
 //! A statement or an expression is written as a list in parentheses: what it is, then its parts in the order in which
-//! the tree has them. A hyphen stands for a part that is absent. A blank stands before each part.
+//! the tree has them. A hyphen stands for a part that is absent. A blank stands before each part. A tree of lines is
+//! written as their numbers, with the lines under a header in brackets behind its number.
 use pm_io::{Boxed, Text};
-use pm_syn::{Arg, AssignOp, BinaryOp, Expr, Par, Stmt, UnaryOp};
+use pm_syn::{Arg, AssignOp, BinaryOp, Expr, Node, Par, Stmt, UnaryOp};
 use std::alloc::{AllocError, Global};
 
 type Written = Result<(), AllocError>;
+
+// Writes the nodes.
+#[cycle(nodes)]
+pub(crate) fn write_nodes(alloc: Global, nodes: &[Node], text: &mut Vec<u8>) -> Written {
+    for node in nodes {
+        write_node(alloc, node, text)?;
+    }
+    Ok(())
+}
+
+#[cycle(nodes)]
+fn write_node(alloc: Global, node: &Node, text: &mut Vec<u8>) -> Written {
+    write_word(format!(in alloc; "{}", node.line)?.as_bytes(), text)?;
+    if !node.body.is_empty() {
+        write_word(b"[", text)?;
+        write_nodes(alloc, node.body.as_slice(), text)?;
+        write_word(b"]", text)?;
+    }
+    Ok(())
+}
 
 // Writes the statement.
 #[cycle(statement)]
