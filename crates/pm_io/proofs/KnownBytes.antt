@@ -35,10 +35,6 @@ pub grows_in_longer : (old new : Option (List ℕ)) (bytes more : List ℕ) → 
 grows_in_longer old new bytes more part =
     (part.0, part.1 ++ more, ap (λ (xs : List ℕ). xs ++ more) part.2 ∙ append_assoc part.0 part.1 more, part.3)
 
--- growth by these bytes is growth by a front of what begins with them
-pub grows_by_front : (old new : Option (List ℕ)) (front rest : List ℕ) → Grows old new front → GrowsByFront old new (front ++ rest)
-grows_by_front old new front rest grown = (front, rest, refl, grown)
-
 -- growth by a front, counted in bytes
 pub grows_by_take : (old new : Option (List ℕ)) (whole : List ℕ) (count : ℕ) → Grows old new (take count whole) → GrowsByFront old new whole
 grows_by_take old new whole count grown = (take count whole, drop count whole, sym (take-append-drop count whole), grown)

@@ -1,9 +1,8 @@
 -- How a text falls into its lines, and that it falls into no others.
 use Rattle.std.proofs.Common.{◌≡◌, ◌<◌, ◌≤◌, suc, length, arith, ◌≢◌, ◌∙◌, ◌==◌, ◌++◌, ℕ, Bool, true, false, List, [], ◌∷◌, inl, inr, ⊎_elim, refl, ap, sym, subst, append_assoc, append-nil}
 use Rattle.std.specs.Prelude.{All}
-use Rattle.std.specs.List.{Contains, flat_map}
+use Rattle.std.specs.List.{flat_map}
 use Rattle.std.proofs.lemmas.Bool.{cond-false, ne_eqb, false≢true, cases_eq}
-use Rattle.std.proofs.lemmas.List.{get_or_default}
 use Rattle.std.proofs.lemmas.List.Elements.{All-nil, All-cons, All-head, All-tail}
 use Rattle.pm_io.specs.Lines.{Line, HasNoLineEnd, put_before, without_cr, lines_of, spelled, AreEnded, IsCutInto, LinesCutTheText}
 use Rattle.pm_io.specs.declared.lines.TheConstants.{LF, CR}
@@ -40,10 +39,6 @@ lines_of-unended (byte ∷ []) some clean = lines_of-other byte [] (All-head IsN
 lines_of-unended (byte ∷ next ∷ text) some clean =
     lines_of-other byte (next ∷ text) (All-head IsNoEnd byte (next ∷ text) clean)
     ∙ ap (put_before byte) (lines_of-unended (next ∷ text) (cons-some next text) (All-tail IsNoEnd byte (next ∷ text) clean))
-
--- bytes among which no LF stands
-pub no_line_end : (bytes : List ℕ) → ¬ Contains bytes LF → HasNoLineEnd bytes
-no_line_end bytes none = λ place default within is. none (place, within, get_or_default bytes place LF default within ∙ is)
 
 -- ---- a first line that is too long
 

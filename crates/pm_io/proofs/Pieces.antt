@@ -1,5 +1,5 @@
 -- What a read leaves of the pieces of a source in memory.
-use Rattle.std.proofs.Common.{◌≡◌, ℕ, zero, suc, ◌+◌, ◌-◌, ◌<◌, ◌≤◌, nat_lt, Bool, true, false, List, [], ◌∷◌, ◌++◌, length, take, drop, slice_get, Some, None, if◌then◌else◌, refl, ap, arith, append_assoc, take-append-drop, take_all, length-drop, ltb-true, ltb-false, lt-ltb, le-ltb}
+use Rattle.std.proofs.Common.{◌≡◌, ℕ, zero, suc, ◌-◌, ◌<◌, ◌≤◌, nat_lt, Bool, true, false, List, [], ◌∷◌, ◌++◌, length, take, drop, slice_get, Some, None, if◌then◌else◌, refl, ap, arith, append_assoc, take-append-drop, take_all, length-drop, ltb-true, ltb-false, le-ltb}
 use Rattle.std.proofs.lemmas.Grind.{common_steps}
 use Rattle.pm_io.specs.Memory.{AreFilled, cut_front, pieces_from, first_of, joined, without_front}
 
@@ -41,14 +41,6 @@ pieces_from-next (suc piece) at (first ∷ pieces) = pieces_from-next piece at p
 pub without_front_all : (count : ℕ) (pieces : List (List ℕ)) → length (first_of pieces) ≤ count → without_front count pieces ≡ drop 1 pieces
 without_front_all count [] past = refl
 without_front_all count (piece ∷ pieces) past = rw (le-ltb count (length piece) past) refl
-
--- once less of it was read, its rest and the others are left
-pub without_front_part : (count piece at : ℕ) (pieces : List (List ℕ)) → count < length (first_of (pieces_from piece at pieces))
-    → pieces_from piece (at + count) pieces ≡ without_front count (pieces_from piece at pieces)
-without_front_part count piece at pieces inside = go (drop piece pieces) inside where
-  go : (ahead : List (List ℕ)) → count < length (first_of (cut_front at ahead)) → cut_front (at + count) ahead ≡ without_front count (cut_front at ahead)
-  go [] inside = refl
-  go (first ∷ others) inside = rw (lt-ltb count (length (drop at first)) inside) (ap (λ one. one ∷ others) (grind (arith, common_steps)))
 
 -- what remains of filled pieces behind the first is filled
 pub filled_rest : (piece : List ℕ) (pieces : List (List ℕ)) → AreFilled (piece ∷ pieces) → AreFilled pieces

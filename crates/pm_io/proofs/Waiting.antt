@@ -6,7 +6,7 @@ use Rattle.pm_io.specs.Streams.{Puts}
 use Rattle.pm_io.specs.Buffering.{Queues, Flushes}
 use Rattle.pm_io.specs.declared.sink.Put.{Put}
 use Rattle.pm_io.specs.declared.sink.Put.TheVariants as put
-use Rattle.pm_io.proofs.KnownBytes.{keeps_same, grows_nothing, grows_on, grows_on_by_front, grows_in_longer}
+use Rattle.pm_io.proofs.KnownBytes.{grows_on, grows_on_by_front, grows_in_longer}
 
 -- to put all that waits is to flush it
 pub flushes_by_put : (old new : Option (List ℕ)) (waiting : List ℕ) (result : Put) → Puts old new waiting result → Flushes old new waiting [] result
@@ -28,10 +28,6 @@ queues_after old mid new waiting empty waiting' piece put.All one none queued =
     (waiting ++ queued.0, grows_on old mid new waiting queued.0 one queued.1, ap (λ (xs : List ℕ). waiting ++ xs) same ∙ sym (append_assoc waiting queued.0 waiting'))
 queues_after old mid new waiting empty waiting' piece put.Failed one none part =
     grows_on_by_front old mid new waiting piece one (subst (λ (xs : List ℕ). GrowsByFront mid new (xs ++ piece)) none part)
-
--- no piece is queued in no call
-pub queues_nothing : (held : Option (List ℕ)) (waiting : List ℕ) → Queues held held waiting waiting [] put.All
-queues_nothing held waiting = ([], grows_nothing held held (keeps_same held), append-nil waiting)
 
 -- one piece queued after another
 pub queues_on : (old mid new : Option (List ℕ)) (waiting waiting' waiting'' first second whole : List ℕ) (result : Put) → whole ≡ first ++ second

@@ -4,8 +4,7 @@ use Rattle.pm_io.specs.Known.{Grows, GrowsByFront}
 use Rattle.pm_io.specs.declared.sink.Put.{Put}
 use Rattle.pm_io.specs.declared.sink.Put.TheVariants as put
 
--- The piece stands behind the bytes that wait, and of all these a front may have gone to the sink. After a failure only
--- that is known.
+-- the piece stands behind the bytes that wait, and of all these a front may have gone to the sink, also after a failure
 abbrev pub Queues : Option (List ℕ) → Option (List ℕ) → List ℕ → List ℕ → List ℕ → Put → Type 0
 Queues old new waiting waiting' piece put.All = (front : List ℕ) × Grows old new front × (waiting ++ piece ≡ front ++ waiting')
 Queues old new waiting waiting' piece put.Failed = GrowsByFront old new (waiting ++ piece)

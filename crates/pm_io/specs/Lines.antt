@@ -55,3 +55,7 @@ pub record IsCutInto (text : List ℕ) (lines : List Line) : Type 0 where
 abbrev pub LinesCutTheText : Type 0
 LinesCutTheText =
     (text : List ℕ) → IsCutInto text (lines_of text) × ((lines : List Line) → IsCutInto text lines → lines ≡ lines_of text)
+
+-- the bytes of line ends are the line feed and the carriage return of ASCII
+abbrev pub LineEndsAreAscii : Type 0
+LineEndsAreAscii = (LF ≡ 10) × (CR ≡ 13)

@@ -8,7 +8,7 @@ ghost use Rattle.std.specs.List.{Contains, between};
 ghost use Rattle.pm_io.specs.Causes.{HasCause};
 ghost use Rattle.pm_io.specs.Known.{Are, Keeps};
 ghost use Rattle.pm_io.specs.LineBuffer.{Fills, FindsLineEnd, Finishes};
-ghost use Rattle.pm_io.specs.Lines.{HasNoLineEnd, LinesCutTheText, without_cr};
+ghost use Rattle.pm_io.specs.Lines.{HasNoLineEnd, LineEndsAreAscii, LinesCutTheText, without_cr};
 ghost use Rattle.pm_io.specs.Reading.{Gives, ahead, is_line, new_reading};
 ghost use Rattle.pm_io.specs.Streams.{Reads};
 
@@ -274,6 +274,11 @@ fn read_behind<S: Source>(source: &mut S, buffer: &mut [u8], start: usize, end: 
     move_to_front(buffer, start, end);
     source.read(&mut buffer[end - start..])
 }
+
+/// The bytes of line ends are those of ASCII: a definition that names one of them means 10 or 13.
+pub fn line_ends_are_ascii()
+    ensures { LineEndsAreAscii }
+{}
 
 /// A text is cut into its lines, and in no other way.
 pub fn lines_cut_the_text()

@@ -97,3 +97,22 @@ fn cuts_texts_into_lines(rt: HostRuntime) -> Result<(), Fail> {
     }
     Ok(())
 }
+
+#[test]
+fn reads_no_further_than_a_line_end(rt: HostRuntime) -> Result<(), Fail> {
+    let mut lines = Lines::new(rt.alloc(), 4)?;
+    let mut source = Pieces {
+        rest: b"ab\n\ncd",
+        most: 1,
+        fails: true,
+        faults: 0,
+    };
+    let steps: [(&[u8], &[u8]); 2] = [(b"ab", b"\ncd"), (b"", b"cd")];
+    for (line, rest) in steps {
+        assert!(rt; lines.live());
+        assert_eq!(rt; lines.next(&mut source), LineGot::Line);
+        assert_eq!(rt; lines.line(), line);
+        assert_eq!(rt; source.rest, rest);
+    }
+    Ok(())
+}

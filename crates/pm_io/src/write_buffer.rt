@@ -36,9 +36,11 @@ impl WriteBuffer {
         }
     }
 
-    /// Puts a piece behind the bytes that wait. Where there is no room for it, those are written first.
+    /// Puts a piece behind the bytes that wait. Where there is no room for it, those are written first. After a failure
+    /// nothing waits, so that no byte is written twice.
     pub fn put<K: Sink>(&mut self, sink: &mut K, piece: &[u8]) -> Put
         ensures bytes { Queues (K.held sink.old) (K.held sink.new) self.old self.new piece.now result }
+        ensures dropped { result ≡ Put.Failed → self.new ≡ [] }
         ensures cause { HasCause (K.faults sink.old) (K.faults sink.new) (result ≡ Put.Failed) }
     {
         if self.has_room(piece.len()) {
@@ -51,9 +53,10 @@ impl WriteBuffer {
         }
     }
 
-    /// Writes the bytes that wait.
+    /// Writes the bytes that wait. After a failure nothing waits either.
     pub fn flush<K: Sink>(&mut self, sink: &mut K) -> Put
         ensures bytes { Flushes (K.held sink.old) (K.held sink.new) self.old self.new result }
+        ensures dropped { result ≡ Put.Failed → self.new ≡ [] }
         ensures cause { HasCause (K.faults sink.old) (K.faults sink.new) (result ≡ Put.Failed) }
     {
         let written = put_all(sink, &self.bytes[..self.len]);
@@ -65,6 +68,7 @@ impl WriteBuffer {
     fn put_first<K: Sink>(&mut self, sink: &mut K, piece: &[u8]) -> Put
         requires { self.old ≡ [] }
         ensures bytes { Queues (K.held sink.old) (K.held sink.new) self.old self.new piece.now result }
+        ensures dropped { result ≡ Put.Failed → self.new ≡ [] }
         ensures cause { HasCause (K.faults sink.old) (K.faults sink.new) (result ≡ Put.Failed) }
     {
         if self.has_room(piece.len()) {
