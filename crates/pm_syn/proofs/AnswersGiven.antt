@@ -17,7 +17,7 @@ use Rattle.pm_syn.specs.declared.fault.TextFault.TheVariants as fault
 use Rattle.pm_syn.specs.declared.lexing.ReadText.{ReadText}
 use Rattle.pm_syn.specs.declared.token.Line.{Line}
 use Rattle.pm_syn.proofs.OneFault.{one_answer}
-use Rattle.pm_syn.proofs.Ascending.{Ascend, ascending, head_first}
+use Rattle.pm_syn.proofs.Ascending.{Ascend, all_of_line, ascending, head_first}
 
 -- a fault of a logical line
 abbrev IsOfLine : TextFault → Type 0
@@ -27,19 +27,12 @@ IsOfLine (fault.BadToken line) = ⊥
 IsOfLine fault.FileTooLong = ⊥
 IsOfLine fault.NoMemory = ⊥
 
-of_line_here : (placed long : Bool) (number : ℕ)
-    → All IsOfLine ((if placed then [] else fault.BadIndent number ∷ []) ++ (if long then fault.LineTooLong number ∷ [] else []))
-of_line_here true true number = All-cons IsOfLine (fault.LineTooLong number) [] tt (All-nil IsOfLine)
-of_line_here true false number = All-nil IsOfLine
-of_line_here false true number =
-    All-cons IsOfLine (fault.BadIndent number) (fault.LineTooLong number ∷ []) tt (All-cons IsOfLine (fault.LineTooLong number) [] tt (All-nil IsOfLine))
-of_line_here false false number = All-cons IsOfLine (fault.BadIndent number) [] tt (All-nil IsOfLine)
-
+-- all faults of logical lines are
 of_lines : (earlier : List ℕ) (drafts : List Draft) → All IsOfLine (faults_behind earlier drafts)
 of_lines earlier [] = All-nil IsOfLine
 of_lines earlier (draft ∷ drafts) =
     All-append IsOfLine (faults_of_line earlier draft) (faults_behind (columns_with draft.indentation earlier) drafts)
-    (of_line_here (is_placed draft.indentation earlier) (nat_lt 4096 (length_of draft.tokens)) draft.number)
+    (all_of_line IsOfLine (is_placed draft.indentation earlier) (nat_lt 4096 (length_of draft.tokens)) draft.number tt tt)
     (of_lines (columns_with draft.indentation earlier) drafts)
 
 -- it names a line before this one, or it doesn't

@@ -158,22 +158,22 @@ ascending text before rest read = all_ascend (line_of before) (ended_lines befor
 abbrev NamesBehind : ℕ → TextFault → Type 0
 NamesBehind line named = line < line_named named
 
--- the faults of a logical line name its line
-faults_here : (placed long : Bool) (number line : ℕ) → line < number
-    → All (NamesBehind line) ((if placed then [] else fault.BadIndent number ∷ []) ++ (if long then fault.LineTooLong number ∷ [] else []))
-faults_here true true number line less = All-cons (NamesBehind line) (fault.LineTooLong number) [] less (All-nil (NamesBehind line))
-faults_here true false number line less = All-nil (NamesBehind line)
-faults_here false true number line less =
-    All-cons (NamesBehind line) (fault.BadIndent number) (fault.LineTooLong number ∷ []) less (
-    All-cons (NamesBehind line) (fault.LineTooLong number) [] less (All-nil (NamesBehind line)))
-faults_here false false number line less = All-cons (NamesBehind line) (fault.BadIndent number) [] less (All-nil (NamesBehind line))
+-- what holds of both faults that a logical line may have holds of each that it has
+pub all_of_line : (P : TextFault → Type 0) (placed long : Bool) (number : ℕ) → P (fault.BadIndent number) → P (fault.LineTooLong number)
+    → All P ((if placed then [] else fault.BadIndent number ∷ []) ++ (if long then fault.LineTooLong number ∷ [] else []))
+all_of_line P true true number indent length = All-cons P (fault.LineTooLong number) [] length (All-nil P)
+all_of_line P true false number indent length = All-nil P
+all_of_line P false true number indent length =
+    All-cons P (fault.BadIndent number) (fault.LineTooLong number ∷ []) indent (All-cons P (fault.LineTooLong number) [] length (All-nil P))
+all_of_line P false false number indent length = All-cons P (fault.BadIndent number) [] indent (All-nil P)
 
 -- the faults of logical lines behind a line name lines behind it
 faults_behind_line : (earlier : List ℕ) (drafts : List Draft) (line : ℕ) → All (Behind line) drafts → All (NamesBehind line) (faults_behind earlier drafts)
 faults_behind_line earlier [] line behind = All-nil (NamesBehind line)
 faults_behind_line earlier (draft ∷ drafts) line behind =
+    let here : line < draft.number = All-head (Behind line) draft drafts behind in
     All-append (NamesBehind line) (faults_of_line earlier draft) (faults_behind (columns_with draft.indentation earlier) drafts) (
-    faults_here (is_placed draft.indentation earlier) (nat_lt 4096 (length_of draft.tokens)) draft.number line (All-head (Behind line) draft drafts behind)) (
+    all_of_line (NamesBehind line) (is_placed draft.indentation earlier) (nat_lt 4096 (length_of draft.tokens)) draft.number here here) (
     faults_behind_line (columns_with draft.indentation earlier) drafts line (All-tail (Behind line) draft drafts behind))
 
 -- the head of a logical line's faults and those behind it comes before each other one
