@@ -3,13 +3,12 @@
 //! `tests/python_agrees.sh` compares this with what Python reads.
 #![tactic(auto)]
 
-mod tree_text;
-
 use pm_io::{HostStore, Loaded, Store};
 use pm_parse::{parse, parse_line};
 use pm_syn::{Line, lex};
 use std::alloc::{AllocError, Global};
 use std::{env, io};
+use tree_text::{write_nodes, write_statement};
 
 /// How many bytes of a file are read: more than a design file may have, so that `lex` itself refuses a longer one.
 const LIMIT: usize = 1 << 21;
@@ -47,10 +46,10 @@ fn print_file(rt: &HostRuntime, name: &[u8]) -> io::Result<()> {
 
 // The number of the line, what it is read as, and a line end.
 fn reading_of(alloc: Global, line: &Line) -> Result<Vec<u8>, AllocError> {
-    let mut text = Vec::from_slice(alloc, format!(in alloc; "{}", line.number)?.as_bytes())?;
+    let mut text = Vec::from_slice(alloc, format!(in alloc; "{} ", line.number)?.as_bytes())?;
     match parse_line(alloc, line) {
-        Ok(statement) => tree_text::write_statement(alloc, &statement, &mut text)?,
-        Err(fault) => text.extend_from_slice(format!(in alloc; " {fault:?}")?.as_bytes())?,
+        Ok(statement) => write_statement(alloc, &statement, &mut text)?,
+        Err(fault) => text.extend_from_slice(format!(in alloc; "{fault:?}")?.as_bytes())?,
     }
     text.push(b'\n')?;
     Ok(text)
@@ -60,7 +59,7 @@ fn reading_of(alloc: Global, line: &Line) -> Result<Vec<u8>, AllocError> {
 fn tree_of(alloc: Global, lines: &[Line]) -> Result<Vec<u8>, AllocError> {
     let mut text = Vec::from_slice(alloc, b"file")?;
     match parse(alloc, lines) {
-        Ok(file) => tree_text::write_nodes(alloc, file.nodes.as_slice(), &mut text)?,
+        Ok(file) => write_nodes(alloc, file.nodes.as_slice(), &mut text)?,
         Err(fault) => text.extend_from_slice(format!(in alloc; " {fault:?}")?.as_bytes())?,
     }
     text.push(b'\n')?;

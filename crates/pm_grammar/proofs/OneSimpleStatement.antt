@@ -10,7 +10,7 @@ use Rattle.pm_grammar.specs.ExpressionStatements.{SpellsBehind, SpellsWithExpres
 use Rattle.pm_grammar.specs.Fronts.{IsNotThere, begins_with}
 use Rattle.pm_grammar.specs.Marks.{is_keyword, is_word}
 use Rattle.pm_grammar.specs.Reading.{Ends, IsOnly}
-use Rattle.pm_grammar.specs.Statements.{IsExpression, SpellsSimple, assignment_of}
+use Rattle.pm_grammar.specs.Statements.{IsExpression, SpellsSimple}
 use Rattle.pm_grammar.specs.Statements as simple
 use Rattle.pm_grammar.specs.declared.level.Level.TheVariants as level
 use Rattle.pm_grammar.proofs.ExpressionStarts.{begins_more, opens, opens_expression}

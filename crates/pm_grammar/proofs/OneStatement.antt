@@ -10,7 +10,7 @@ use Rattle.pm_syn.specs.declared.statement.Stmt as leaf
 use Rattle.pm_syn.specs.declared.statement.Stmt.TheViews as stmt
 use Rattle.pm_syn.specs.declared.token.Token.{Token}
 use Rattle.pm_grammar.specs.Fronts.{IsNotThere, begins_with}
-use Rattle.pm_grammar.specs.Headers.{IsCondition, IsGuard, IsOnlyParameter, IsSignature, OpensGuard, SpellsBase, SpellsBranch, SpellsClass, SpellsDecorator, SpellsDefinition, SpellsFor, SpellsFunctionEnd, SpellsImport, ends_parameter}
+use Rattle.pm_grammar.specs.Headers.{IsGuard, IsOnlyParameter, IsSignature, OpensGuard, SpellsBase, SpellsBranch, SpellsClass, SpellsDecorator, SpellsDefinition, SpellsFunctionEnd, SpellsImport, ends_parameter}
 use Rattle.pm_grammar.specs.Headers as header
 use Rattle.pm_grammar.specs.Laws.{TokensSpellOneStatement}
 use Rattle.pm_grammar.specs.Marks.{is_mark, is_name, is_word}

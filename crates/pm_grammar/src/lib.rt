@@ -27,8 +27,6 @@ mod operator;
 mod simple;
 #[cfg(test)]
 mod tests;
-#[cfg(test)]
-mod written_trees;
 
 pub use depth::is_shallow;
 pub use fault::LineFault;

@@ -1,10 +1,10 @@
 //! Lines and what they are read as.
 use crate::parse_line;
-use crate::written_trees::write_statement;
 use pm_syn::{Line, lex};
 use std::alloc::{AllocError, Global};
 use std::process::Abort;
 use std::test::Fail;
+use tree_text::write_statement;
 
 // The statement that the line is read as, or the name of its fault.
 pub(crate) fn reading_of(alloc: Global, line: &Line) -> Result<Vec<u8>, AllocError> {
