@@ -17,7 +17,7 @@ abbrev HasStatement : Entry → Type 0
 HasStatement entry = IsTrue (is_some entry.statement)
 
 -- a line without a fault has a statement, and those behind it have no fault
-fault_or_none : (before : List LineForm) (entry : Entry) (behind : List Entry) (said : Option Stmt) (otherwise : Stmt → Option ParseFault) → fault_or before entry behind said otherwise ≡ None
+pub fault_or_none : (before : List LineForm) (entry : Entry) (behind : List Entry) (said : Option Stmt) (otherwise : Stmt → Option ParseFault) → fault_or before entry behind said otherwise ≡ None
     → (statement : Stmt) × (said ≡ Some statement) × (otherwise statement ≡ None)
 fault_or_none before entry behind None otherwise none = cc
 fault_or_none before entry behind (Some statement) otherwise none =

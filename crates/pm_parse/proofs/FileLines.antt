@@ -3,7 +3,7 @@ use Rattle.std.proofs.Common.{◌≡◌, ◌∙◌, ◌<◌, ℕ, List, [], ◌�
 use Rattle.std.specs.Prelude.{Ok}
 use Rattle.std.proofs.lemmas.Bool.{cond_both}
 use Rattle.std.proofs.lemmas.List.{map-append}
-use Rattle.std.proofs.lemmas.List.Elements.{All-cons, All-head, All-map, All-tail}
+use Rattle.std.proofs.lemmas.List.Elements.{All-map}
 use Rattle.std.proofs.lemmas.List.Folds.{flat_map-map}
 use Rattle.std.proofs.lemmas.List.Kept.{AllPairs-cons}
 use Rattle.pm_syn.specs.declared.statement.File.{File}
@@ -17,6 +17,7 @@ use Rattle.pm_parse.specs.FileLines.{FilesKeepTheOrderOfLines, numbers_of, numbe
 use Rattle.pm_parse.specs.ReadOver.{is_read_over, kept, kept_behind}
 use Rattle.pm_parse.specs.Trees.{AreTrees}
 use Rattle.pm_parse.specs.declared.entry.Entry.{Entry}
+use Rattle.pm_parse.proofs.KeptLines.{all_kept}
 
 -- ---- the numbers of trees
 
@@ -71,20 +72,12 @@ lines_behind line lines ascend k other within = ascend 0 (suc k) other (omega ar
 lines_ascend : (line : Line) (lines : List Line) → LinesAscend (line ∷ lines) → LinesAscend lines
 lines_ascend line lines ascend i j other less within = ascend (suc i) (suc j) other (omega (arith, less)) (omega (arith, within))
 
--- of lines behind a number those that are kept are behind it
-kept_are_behind : (number : ℕ) (before lines : List Line) → All (IsBehind number) lines → All (IsBehind number) (kept_behind before lines)
-kept_are_behind number before [] behind = behind
-kept_are_behind number before (line ∷ lines) behind =
-    let others = kept_are_behind number (line ∷ before) lines (All-tail (IsBehind number) line lines behind) in
-    cond_both (is_read_over line before) (kept_behind (line ∷ before) lines) (line ∷ kept_behind (line ∷ before) lines) (All (IsBehind number)) (λ _. others) (
-    λ _. All-cons (IsBehind number) line (kept_behind (line ∷ before) lines) (All-head (IsBehind number) line lines behind) others)
-
 -- of lines that ascend the numbers of those that are kept ascend
 kept_ascend : (before lines : List Line) → LinesAscend lines → Ascend (map number_of (kept_behind before lines))
 kept_ascend before [] ascend = λ i j d less within. absurd (omega (arith, within))
 kept_ascend before (line ∷ lines) ascend =
     let others = kept_ascend (line ∷ before) lines (lines_ascend line lines ascend) in
-    let behind = kept_are_behind line.number (line ∷ before) lines (lines_behind line lines ascend) in
+    let behind = all_kept (IsBehind line.number) (line ∷ before) lines (lines_behind line lines ascend) in
     cond_both (is_read_over line before) (kept_behind (line ∷ before) lines) (line ∷ kept_behind (line ∷ before) lines) (λ (left : List Line). Ascend (map number_of left)) (λ _. others) (
     λ _. AllPairs-cons (λ (number later : ℕ). number < later) line.number (map number_of (kept_behind (line ∷ before) lines)) (
     All-map (λ (later : ℕ). line.number < later) number_of (kept_behind (line ∷ before) lines) behind) others)

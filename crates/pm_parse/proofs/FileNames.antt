@@ -1,5 +1,5 @@
 -- The names in the trees of a file are proper, where the names of its lines are spelled as names.
-use Rattle.std.proofs.Common.{◌≡◌, ℕ, Bool, true, false, if◌then◌else◌, List, [], ◌∷◌, ◌++◌, Some, All, subst}
+use Rattle.std.proofs.Common.{◌≡◌, ℕ, List, [], ◌∷◌, ◌++◌, Some, All, subst}
 use Rattle.std.proofs.lemmas.List.Elements.{All-cons, All-head, All-nil, All-tail}
 use Rattle.pm_syn.specs.declared.statement.Node.{Node, fold-roll-Node}
 use Rattle.pm_syn.specs.declared.statement.Node.TheViews.{roll-Node}
@@ -7,25 +7,13 @@ use Rattle.pm_syn.specs.declared.statement.Stmt.{Stmt}
 use Rattle.pm_syn.specs.declared.token.Line.{Line}
 use Rattle.pm_parse.specs.Entries.{AreEntries, IsEntry, Says}
 use Rattle.pm_parse.specs.FileNames.{FilesHaveProperNames, HasSpelledNames, Names, names_of, names_of_node, names_of_statement, node_over}
-use Rattle.pm_parse.specs.ReadOver.{is_read_over, kept, kept_behind}
+use Rattle.pm_parse.specs.ReadOver.{kept}
 use Rattle.pm_parse.specs.Trees.{AreTrees}
 use Rattle.pm_parse.specs.Trees as trees
 use Rattle.pm_parse.specs.declared.entry.Entry.{Entry}
+use Rattle.pm_parse.proofs.KeptLines.{all_kept}
 use Rattle.pm_parse.proofs.ProperNames.{AreProper, all_behind, all_front, both_proper, none_proper, same_proper}
 use Rattle.pm_parse.proofs.SpelledStatements.{IsProper, spelled_line}
-
--- ---- the lines that aren't read over
-
--- one more line, if it is kept
-all_with_line : (P : Line → Type 0) (over : Bool) (line : Line) (lines : List Line) → P line → All P lines → All P (if over then lines else line ∷ lines)
-all_with_line P true line lines one all = all
-all_with_line P false line lines one all = All-cons P line lines one all
-
--- what holds of each line holds of those that are kept
-all_kept : (P : Line → Type 0) (before behind : List Line) → All P behind → All P (kept_behind before behind)
-all_kept P before [] all = All-nil P
-all_kept P before (line ∷ behind) all =
-    all_with_line P (is_read_over line before) line (kept_behind (line ∷ before) behind) (All-head P line behind all) (all_kept P (line ∷ before) behind (All-tail P line behind all))
 
 -- ---- what the lines say
 

@@ -1,7 +1,8 @@
 -- The lines that aren't read over, and what they say, line by line.
-use Rattle.std.proofs.Common.{◌≡◌, ◌∙◌, ◌<◌, ◌≤◌, ◌+◌, ℕ, suc, true, false, List, [], ◌∷◌, ◌++◌, length, drop, get_or, refl, ap, sym, subst, add-one, append_assoc, append-nil, drop-cons}
+use Rattle.std.proofs.Common.{◌≡◌, ◌∙◌, ◌<◌, ◌≤◌, ◌+◌, ℕ, suc, Bool, true, false, if◌then◌else◌, All, List, [], ◌∷◌, ◌++◌, length, drop, get_or, refl, ap, sym, subst, add-one, append_assoc, append-nil, drop-cons}
 use Rattle.std.specs.Prelude.{IfSome, Option, Some, None}
 use Rattle.std.proofs.lemmas.List.{drop_all}
+use Rattle.std.proofs.lemmas.List.Elements.{All-cons, All-head, All-nil, All-tail}
 use Rattle.pm_syn.specs.declared.statement.Stmt.{Stmt}
 use Rattle.pm_syn.specs.declared.token.Line.{Line}
 use Rattle.pm_syn.specs.declared.token.Token.{Token}
@@ -11,6 +12,19 @@ use Rattle.pm_parse.specs.OpenLines.{kept_of}
 use Rattle.pm_parse.specs.ReadOver.{is_read_over, kept, kept_behind}
 use Rattle.pm_parse.specs.declared.enclosing.Header.{Header}
 use Rattle.pm_parse.specs.declared.entry.Entry.{Entry}
+
+-- ---- what holds of the lines
+
+-- one more line, if it is kept
+all_with_line : (P : Line → Type 0) (over : Bool) (line : Line) (lines : List Line) → P line → All P lines → All P (if over then lines else line ∷ lines)
+all_with_line P true line lines one all = all
+all_with_line P false line lines one all = All-cons P line lines one all
+
+-- what holds of each line holds of those that are kept
+pub all_kept : (P : Line → Type 0) (before behind : List Line) → All P behind → All P (kept_behind before behind)
+all_kept P before [] all = All-nil P
+all_kept P before (line ∷ behind) all =
+    all_with_line P (is_read_over line before) line (kept_behind (line ∷ before) behind) (All-head P line behind all) (all_kept P (line ∷ before) behind (All-tail P line behind all))
 
 -- ---- what a line says
 

@@ -52,7 +52,7 @@ abbrev pub ends_in_branch : List LineForm → Bool
 ends_in_branch [] = false
 ends_in_branch (nearest ∷ lines) = is_branch nearest.form
 
--- one of these lines is a `construct`
+-- the form of `construct`
 abbrev pub is_construct : Form → Bool
 is_construct form.Construct = true
 is_construct other = false
@@ -82,16 +82,17 @@ may_stand_bare form.BitstructClass = false
 may_stand_bare form.Block = false
 may_stand_bare other = true
 
--- the next line is no less deep, and the decorator may stand before what it says; before a line without a statement it may stand
+-- a next line at this column, which says this, is no less deep and is what the decorator decorates; one that says nothing isn't asked
 abbrev pub decorates_line : LineForm → ℕ → Option Stmt → Bool
 decorates_line line column None = true
 decorates_line line column (Some statement) = nat_le line.column column && decorates line.form (form_of statement)
 
+-- the decorator may stand before these lines: there is a next one, and it is such
 abbrev pub decorates_next : LineForm → List Entry → Bool
 decorates_next line [] = false
 decorates_next line (next ∷ behind) = decorates_line line next.column next.statement
 
--- no line stands beside it behind it
+-- the next line, if there is one, doesn't stand at this column
 abbrev pub is_last : ℕ → List Entry → Bool
 is_last column [] = true
 is_last column (next ∷ behind) = not (next.column == column)

@@ -11,6 +11,8 @@ pub mod Faults
 pub mod Trees
 pub mod StackedTrees
 pub mod Answers
+pub mod LaidOutTrees
+pub mod LaidOutFiles
 pub mod Laws
 pub mod FileLines
 pub mod FileNames

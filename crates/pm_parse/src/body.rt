@@ -20,8 +20,8 @@ pub(crate) struct Body {
     pub has_construct: bool,
 }
 
-/// The bodies in which the next line may stand, the last of which it may end, and whose last line it may stand under.
-/// Contracts see them from the innermost to the file.
+/// The open bodies: the next line goes on with one of them, or stands under the last line of the innermost. Contracts see
+/// them from the innermost to the file.
 #[derive(Drop)]
 pub(crate) struct OpenBodies {
     // From the file to the innermost.

@@ -13,7 +13,7 @@ pub enum ParseFault {
     /// They spell one with an expression that is more than 64 deep.
     #[error("line {0}: an expression is more than 64 deep")]
     TooDeep(u32),
-    /// They spell one that may not stand there: below or before such lines, or at that column.
+    /// They spell one that may not stand there: behind or before such lines, or at that column.
     #[error("line {0}: no such line may stand there")]
     Layout(u32),
     /// Memory ran out.

@@ -26,6 +26,7 @@ pub(crate) enum Form {
     Annotation,
     /// `e : e = e`.
     State,
+    /// A call that stands alone.
     Call,
     /// Another expression that stands alone.
     Expression,
