@@ -1,28 +1,21 @@
 -- The text of ports, one after another.
-use Rattle.std.proofs.Common.{◌≡◌, ◌∙◌, ◌<◌, ◌+◌, ◌-◌, ◌*◌, ◌/◌, ◌%◌, ◌^◌, ◌++◌, ℕ, zero, suc, Bool, true, false, List, [], ◌∷◌, length, drop, get_or, refl, ap, ap₂, sym, append_assoc, drop-cons, add-one, arith}
-use Rattle.std.specs.Prelude.{slice_index, if◌then◌else◌}
-use Rattle.std.specs.Prelude.{Option}
+use Rattle.std.proofs.Common.{◌≡◌, ◌∙◌, ◌<◌, ◌+◌, ◌-◌, ◌*◌, ◌/◌, ◌%◌, ◌^◌, ◌++◌, ℕ, zero, suc, Bool, true, List, [], ◌∷◌, length, drop, get_or, refl, ap, ap₂, sym, append_assoc, drop-cons, add-one, arith}
+use Rattle.std.specs.Prelude.{slice_index, codes, if◌then◌else◌, Option}
 use Rattle.pm_bits.specs.Word.{Word}
 use Rattle.pm_io.specs.Buffering.{Queues}
 use Rattle.pm_io.specs.declared.sink.Put.{Put}
 use Rattle.pm_io.specs.declared.sink.Put.TheVariants as put
 use Rattle.pm_io.proofs.Waiting.{queues_on, queues_in_longer}
 use Rattle.pm_design.specs.declared.signal.Signal.{Signal}
-use Rattle.pm_job.specs.declared.trace_text.TheConstants.{BLANK, HEX_DIGITS}
+use Rattle.pm_job.specs.Words.{blank}
 use Rattle.pm_job.specs.Trace.{is_port, port_name, port_value, port_names, port_values, hex_of, hex_digits}
 
 -- what a port shows, and what a wire
-pub port_name-port : (signal : Signal) → is_port signal.role ≡ true → port_name signal ≡ (BLANK ∷ []) ++ signal.name
-port_name-port signal shown = ap (λ (b : Bool). if b then BLANK ∷ signal.name else []) shown
+pub port_name-port : (signal : Signal) → is_port signal.role ≡ true → port_name signal ≡ (blank ∷ []) ++ signal.name
+port_name-port signal shown = ap (λ (b : Bool). if b then blank ∷ signal.name else []) shown
 
-pub port_name-wire : (signal : Signal) → is_port signal.role ≡ false → port_name signal ≡ []
-port_name-wire signal hidden = ap (λ (b : Bool). if b then BLANK ∷ signal.name else []) hidden
-
-pub port_value-port : (signal : Signal) (value : Word) → is_port signal.role ≡ true → port_value signal value ≡ (BLANK ∷ []) ++ hex_of value
-port_value-port signal value shown = ap (λ (b : Bool). if b then BLANK ∷ hex_of value else []) shown
-
-pub port_value-wire : (signal : Signal) (value : Word) → is_port signal.role ≡ false → port_value signal value ≡ []
-port_value-wire signal value hidden = ap (λ (b : Bool). if b then BLANK ∷ hex_of value else []) hidden
+pub port_value-port : (signal : Signal) (value : Word) → is_port signal.role ≡ true → port_value signal value ≡ (blank ∷ []) ++ hex_of value
+port_value-port signal value shown = ap (λ (b : Bool). if b then blank ∷ hex_of value else []) shown
 
 -- the names from one place on begin with that signal's
 pub port_names-drop : (signals : List Signal) (place : ℕ) (signal : Signal) → place < length signals → signal ≡ get_or signals place signal
@@ -42,11 +35,11 @@ port_values-drop signals values place signal value within inside is has =
 
 -- the digits begin with the highest one
 pub hex_digits-next : (left number : ℕ) → 0 < left
-    → hex_digits left number ≡ slice_index HEX_DIGITS (number / 2 ^ (4 * (left - 1)) % 16) ∷ hex_digits (left - 1) number
+    → hex_digits left number ≡ slice_index (codes "0123456789abcdef") (number / 2 ^ (4 * (left - 1)) % 16) ∷ hex_digits (left - 1) number
 hex_digits-next zero number some = absurd (omega arith)
 hex_digits-next (suc n) number some =
     let less : n ≡ suc n - 1 = omega arith in
-    ap (λ (k : ℕ). slice_index HEX_DIGITS (number / 2 ^ (4 * k) % 16) ∷ hex_digits k number) less
+    ap (λ (k : ℕ). slice_index (codes "0123456789abcdef") (number / 2 ^ (4 * k) % 16) ∷ hex_digits k number) less
 
 -- one more part is done, of a text that is done part by part
 pub goes_on : (done part rest rest' whole : List ℕ) → done ++ rest ≡ whole → rest ≡ part ++ rest' → (done ++ part) ++ rest' ≡ whole

@@ -1,5 +1,5 @@
 -- Every list of blocks has an arrangement or a loop.
-use Rattle.std.proofs.Common.{◌≡◌, ◌+◌, ◌++◌, ◌⊎◌, inl, inr, ℕ, zero, suc, List, [], ◌∷◌, true, length, get_or, refl, sym, arith}
+use Rattle.std.proofs.Common.{◌≡◌, ◌++◌, ◌⊎◌, inl, inr, ℕ, zero, suc, List, [], ◌∷◌, true, length, get_or, refl, sym, arith}
 use Rattle.std.specs.Prelude.{Option, None, Some}
 use Rattle.std.specs.List.{position, remove}
 use Rattle.std.specs.List.Sorted.{IsPermutation}

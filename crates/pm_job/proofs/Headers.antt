@@ -37,12 +37,6 @@ listed separator (signal ∷ signals) =
 abbrev names_of : List Signal → List (List ℕ)
 names_of signals = map (λ signal. signal.name) (filter (λ signal. is_input signal.role) signals)
 
-filter_yes : (signal : Signal) (signals : List Signal) → is_input signal.role ≡ true → names_of (signal ∷ signals) ≡ signal.name ∷ names_of signals
-filter_yes signal signals input = rw input refl
-
-filter_no : (signal : Signal) (signals : List Signal) → is_input signal.role ≡ false → names_of (signal ∷ signals) ≡ names_of signals
-filter_no signal signals other = rw other refl
-
 listed_after : (name : List ℕ) (signals : List Signal) → name ++ listed (blank ∷ []) signals ≡ join_with_byte blank (name ∷ names_of signals)
 listed_after name [] = append-nil name
 listed_after name (signal ∷ signals) =

@@ -1,6 +1,6 @@
 -- How a run begins: the header, the head and the cycles of reset.
-use Rattle.std.proofs.Common.{◌≡◌, ◌∙◌, ◌++◌, ℕ, Bool, true, List, [], ◌∷◌, drop, refl, ap, ap₂, sym, subst, append-nil, ◌&&◌, length}
-use Rattle.std.specs.Prelude.{Option, None, Some, if◌then◌else◌, nat_le}
+use Rattle.std.proofs.Common.{◌≡◌, ◌∙◌, ◌++◌, ℕ, Bool, true, List, [], ◌∷◌, drop, refl, ap, ap₂, sym, subst, append-nil, ◌&&◌}
+use Rattle.std.specs.Prelude.{Option, None, Some, if◌then◌else◌}
 use Rattle.std.specs.Str.{bytes_eq}
 use Rattle.pm_bits.specs.Word.{Word}
 use Rattle.pm_design.specs.declared.signal.Signal.{Signal}
@@ -14,12 +14,11 @@ use Rattle.pm_io.proofs.KnownBytes.{grows_on, grows_in_longer, grows_on_by_front
 use Rattle.pm_job.specs.declared.component.Component.{Component}
 use Rattle.pm_job.specs.declared.simulate.Finish.{Finish}
 use Rattle.pm_job.specs.declared.simulate.Finish.TheVariants as finish
-use Rattle.pm_job.specs.declared.simulate.TheConstants.{LINE_LIMIT}
 use Rattle.pm_job.specs.declared.simulate.HeaderGot.{HeaderGot}
 use Rattle.pm_job.specs.declared.simulate.HeaderGot.TheVariants as header
 use Rattle.pm_job.proofs.BlocksAt.{header_of-arranged}
 use Rattle.pm_job.specs.Answers.{Outcome, refused_at, zeros_of, reset_row}
-use Rattle.pm_job.specs.Input.{is_header, input_widths}
+use Rattle.pm_job.specs.Input.{is_header, is_short, input_widths}
 use Rattle.pm_job.specs.Vectors.{header_of}
 use Rattle.pm_job.specs.Sound.{widths_of}
 use Rattle.pm_job.specs.Trace.{inputs_of, initial_values, head_text, row_text}
@@ -159,11 +158,11 @@ header-arranged component order (Some text) now header.Good gives = (
   gives.1,
   gives.2,
   gives.3,
-  ap (λ (names : List ℕ). nat_le (length gives.0.bytes) LINE_LIMIT && bytes_eq (content gives.0) names) (header_of-arranged component order) ∙ gives.4,
+  ap (λ (names : List ℕ). is_short gives.0 && bytes_eq (content gives.0) names) (header_of-arranged component order) ∙ gives.4,
 )
 header-arranged component order (Some text) now header.Empty gives = (gives.0, gives.1, header_of-arranged component order ∙ gives.2)
 header-arranged component order (Some text) now header.Bad gives = none (lines_of text) gives where
   none : (lines : List Line) → HasNoHeader component lines → HasNoHeader (arranged component order) lines
   none [] is = ap (bytes_eq []) (header_of-arranged component order) ∙ is
-  none (line ∷ lines) is = ap (λ (names : List ℕ). nat_le (length line.bytes) LINE_LIMIT && bytes_eq (content line) names) (header_of-arranged component order) ∙ is
+  none (line ∷ lines) is = ap (λ (names : List ℕ). is_short line && bytes_eq (content line) names) (header_of-arranged component order) ∙ is
 header-arranged component order (Some text) now header.Failed gives = tt

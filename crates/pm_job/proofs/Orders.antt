@@ -1,9 +1,9 @@
 -- Running ordered blocks solves the equations, the equations have one solution, and no other order changes it.
-use Rattle.std.proofs.Common.{◌≡◌, ◌≢◌, ◌∙◌, ◌<◌, ◌==◌, not, ℕ, zero, suc, Bool, true, false, List, [], ◌∷◌, length, refl, ap, ap₂, sym, subst, arith, get_or-set_same, get_or-set_other, inl, inr}
+use Rattle.std.proofs.Common.{◌≡◌, ◌≢◌, ◌∙◌, ◌<◌, ◌==◌, not, ℕ, zero, suc, Bool, true, false, List, [], ◌∷◌, length, refl, ap, ap₂, sym, subst, arith, get_or-set_same, get_or-set_other}
 use Rattle.std.specs.Prelude.{All, Contains, if◌then◌else◌, slice_index_or}
-use Rattle.std.specs.List.{AllPairs, list_all, list_any}
-use Rattle.std.proofs.lemmas.List.{length-set, ext_get_or, get_or_default}
-use Rattle.std.proofs.lemmas.Bool.{eqb-true, eqb-false, eq-eqb, ne_eqb, not-true, both_ways, and_from, or_left, or_right, or_parts, or_from, cases_order}
+use Rattle.std.specs.List.{list_all, list_any}
+use Rattle.std.proofs.lemmas.List.{length-set, ext_get_or}
+use Rattle.std.proofs.lemmas.Bool.{eqb-true, eqb-false, eq-eqb, not-true, both_ways, or_left, or_right, or_parts}
 use Rattle.pm_bits.specs.Word.{Word}
 use Rattle.pm_bits.specs.Operator.{result_of}
 use Rattle.pm_job.specs.declared.component.Assignment.{Assignment}
@@ -16,9 +16,7 @@ use Rattle.pm_job.specs.Laws.{HaveSameBlocks}
 use Rattle.pm_job.specs.Progress.{after_block, after_blocks}
 use Rattle.pm_job.specs.Reads.{is_signal, reads, is_ordered, AssignWithin}
 use Rattle.pm_job.specs.Settled.{IsSettled, value_at, seen_by, operand_value, expression_value}
-use Rattle.pm_job.specs.Sound.{assignment_fits}
-use Rattle.pm_job.specs.Values.{value_widths}
-use Rattle.pm_job.proofs.Widths.{both, assignment_fits_here}
+use Rattle.pm_job.proofs.Widths.{both}
 
 -- an expression's value hangs on the signals that it reads alone
 operand_value-agree : (f g : ℕ → Word) (a : Operand) → ((place : ℕ) → is_signal place a ≡ true → f place ≡ g place) → operand_value f a ≡ operand_value g a
@@ -186,68 +184,6 @@ settled_permuted blocks blocks' start settled same all = record {
   moved P xs ys among each k d in_range =
       let found = among k d in_range in subst P found.2 (each found.0 (slice_index_or ys k d) found.1)
 
--- lists with the same elements, by places
-pub same_blocks_by_places : (blocks blocks' : List Assignment)
-    → ((k : ℕ) (d : Assignment) → k < length blocks → (j : ℕ) × (j < length blocks') × (slice_index_or blocks k d ≡ slice_index_or blocks' j d))
-    → ((k : ℕ) (d : Assignment) → k < length blocks' → (j : ℕ) × (j < length blocks) × (slice_index_or blocks' k d ≡ slice_index_or blocks j d))
-    → HaveSameBlocks blocks blocks'
-same_blocks_by_places blocks blocks' there back = (found blocks blocks' there, found blocks' blocks back) where
-  found : (xs ys : List Assignment)
-      → ((k : ℕ) (d : Assignment) → k < length xs → (j : ℕ) × (j < length ys) × (slice_index_or xs k d ≡ slice_index_or ys j d))
-      → All (Contains ys) xs
-  found xs ys places k d in_range =
-      let at = places k d in_range in
-      (at.0, at.1, get_or_default ys at.0 (slice_index_or xs k d) d at.1 ∙ sym at.2)
-
--- blocks at different places have different targets
-pub targets_apart : (blocks : List Assignment) → targets_differ blocks ≡ true → AllPairs (λ block other. other.target ≢ block.target) blocks
-targets_apart [] differ i j d before in_range = absurd (omega arith)
-targets_apart (block ∷ blocks) differ zero zero d before in_range = absurd (omega arith)
-targets_apart (block ∷ blocks) differ zero (suc j) d before in_range =
-    let targets = both (not (list_any (λ (other : Assignment). other.target == block.target) blocks)) (targets_differ blocks) differ in
-    other_targets blocks block.target targets.0 j d (omega (arith, in_range))
-targets_apart (block ∷ blocks) differ (suc i) zero d before in_range = absurd (omega arith)
-targets_apart (block ∷ blocks) differ (suc i) (suc j) d before in_range =
-    let targets = both (not (list_any (λ (other : Assignment). other.target == block.target) blocks)) (targets_differ blocks) differ in
-    targets_apart blocks targets.1 i j d (omega (arith, before)) (omega (arith, in_range))
-
--- a target that no block has is not found among them
-target_not_found : (blocks : List Assignment) (target : ℕ) → All (λ other. other.target ≢ target) blocks → list_any (λ other. other.target == target) blocks ≡ false
-target_not_found [] target others = refl
-target_not_found (block ∷ blocks) target others =
-    or_from (block.target == target) (list_any (λ (other : Assignment). other.target == target) blocks)
-    (ne_eqb block.target target (others 0 block (omega arith)))
-    (target_not_found blocks target (λ k d in_range. others (suc k) d (omega (arith, in_range))))
-
--- blocks with different targets at different places differ in their targets
-pub targets_differ_apart : (blocks : List Assignment) → AllPairs (λ block other. other.target ≢ block.target) blocks → targets_differ blocks ≡ true
-targets_differ_apart [] apart = refl
-targets_differ_apart (block ∷ blocks) apart =
-    and_from (not (list_any (λ (other : Assignment). other.target == block.target) blocks)) (targets_differ blocks)
-    (ap not (target_not_found blocks block.target (λ k d in_range. apart 0 (suc k) d (omega arith) (omega (arith, in_range)))))
-    (targets_differ_apart blocks (λ i j d before in_range. apart (suc i) (suc j) d (omega (arith, before)) (omega (arith, in_range))))
-
--- blocks taken from different places of blocks with different targets have different targets
-pub targets_differ_taken : (blocks taken : List Assignment) (place_of : ℕ → ℕ)
-    → ((k : ℕ) (d : Assignment) → k < length taken → (place_of k < length blocks) × (slice_index_or taken k d ≡ slice_index_or blocks (place_of k) d))
-    → ((i j : ℕ) → i < j → j < length taken → place_of i ≢ place_of j)
-    → targets_differ blocks ≡ true → targets_differ taken ≡ true
-targets_differ_taken blocks taken place_of from once differ = targets_differ_apart taken each where
-  apart : (p q : ℕ) (d : Assignment) → p < length blocks → q < length blocks → p ≢ q → (slice_index_or blocks q d).target ≢ (slice_index_or blocks p d).target
-  apart p q d first second other = elim (cases_order p q) as (λ _. (slice_index_or blocks q d).target ≢ (slice_index_or blocks p d).target) [
-    | inl same ↦ absurd (other same)
-    | inr (inl below) ↦ targets_apart blocks differ p q d below second
-    | inr (inr above) ↦ λ (same : (slice_index_or blocks q d).target ≡ (slice_index_or blocks p d).target). targets_apart blocks differ q p d above first (sym same)
-  ]
-
-  each : AllPairs (λ block other. other.target ≢ block.target) taken
-  each i j d before in_range =
-      let first = from i d (omega (arith, before, in_range)) in
-      let second = from j d in_range in
-      λ (same : (slice_index_or taken j d).target ≡ (slice_index_or taken i d).target).
-      apart (place_of i) (place_of j) d first.0 second.0 (once i j before in_range)
-      (sym (ap (λ (b : Assignment). b.target) second.1) ∙ (same ∙ ap (λ (b : Assignment). b.target) first.1))
-
 -- running an arrangement in order solves the equations of the blocks
 pub arranged_settles : (blocks arranged : List Assignment) (start : List Word) → HaveSameBlocks arranged blocks → is_ordered arranged ≡ true → targets_differ arranged ≡ true
     → AssignWithin (length start) arranged → IsSettled blocks start (after_blocks arranged start)
@@ -259,13 +195,3 @@ pub one_solution_arranged : (blocks arranged : List Assignment) (start a b : Lis
     → AssignWithin (length start) arranged → IsSettled blocks start a → IsSettled blocks start b → a ≡ b
 one_solution_arranged blocks arranged start a b same ordered differ within first second =
     one_solution_ordered arranged start a b ordered differ within (settled_permuted blocks arranged start a same first) (settled_permuted blocks arranged start b same second)
-
--- blocks that fit the values assign within them
-pub fitting_within : (values : List Word) (blocks : List Assignment) → list_all (assignment_fits (value_widths values)) blocks ≡ true → AssignWithin (length values) blocks
-fitting_within values [] fits k d in_range = absurd (omega arith)
-fitting_within values (block ∷ blocks) fits zero d in_range =
-    let parts = both (assignment_fits (value_widths values) block) (list_all (assignment_fits (value_widths values)) blocks) fits in
-    (assignment_fits_here values block parts.0).0
-fitting_within values (block ∷ blocks) fits (suc k) d in_range =
-    let parts = both (assignment_fits (value_widths values) block) (list_all (assignment_fits (value_widths values)) blocks) fits in
-    fitting_within values blocks parts.1 k d (omega (arith, in_range))

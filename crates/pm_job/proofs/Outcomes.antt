@@ -20,18 +20,10 @@ use Rattle.pm_job.specs.Endings.{EndsAs, EndsTarget, status_of, message_of}
 use Rattle.pm_job.specs.Form.{component_of, form_lines, behind_head}
 use Rattle.pm_job.specs.Precedence.{HasLoop, IsArrangement}
 use Rattle.pm_job.specs.Progress.{IsRead, Ends, EndsRun, arranged, simulated}
-use Rattle.pm_job.proofs.Components.{component_typed, component_begins, component_passes}
+use Rattle.pm_job.proofs.Components.{is_read}
 use Rattle.pm_job.proofs.Existence.{arrangement_or_loop}
 use Rattle.pm_job.proofs.Ranks.{ordered_has_no_loop}
 use Rattle.pm_job.proofs.Rearranged.{arranged_traces}
-
--- what the reader of the form gives
-pub is_read : (class text : List ℕ) (component : Component) → component_of class text ≡ Some component → IsRead component
-is_read class text component is = record {
-  typed = component_typed class text component is;
-  begins = component_begins class text component is;
-  differ = (component_passes class text component is).targets_differ;
-}
 
 -- a simulation with the blocks in an arrangement ended as one of the component
 pub ends_arranged : (component : Component) (places : List ℕ) (told old new : Option (List ℕ)) (answer : Finish) → IsRead component → IsArrangement component.blocks places
@@ -43,22 +35,21 @@ ends_arranged component places (Some input) old new answer read order ends = (
   ends,
 )
 
+-- what stays as it is has grown by no bytes
+grows_by_none : (held : Option (List ℕ)) → Grows held held []
+grows_by_none None = tt
+grows_by_none (Some bytes) = ap Some (sym (append-nil bytes))
+
 -- a loop is refused
 pub ends_looped : (component : Component) (told held : Option (List ℕ)) → HasLoop component.blocks → EndsAs (Some component) told held held (finish.Refused 1)
 ends_looped component None held loop = tt
-ends_looped component (Some input) held loop = (refused_at 1, inl (loop, refl), (refl, grows_by_none held)) where
-  grows_by_none : (held : Option (List ℕ)) → Grows held held []
-  grows_by_none None = tt
-  grows_by_none (Some bytes) = ap Some (sym (append-nil bytes))
+ends_looped component (Some input) held loop = (refused_at 1, inl (loop, refl), (refl, grows_by_none held))
 
 -- a file without a component is refused
 pub ends_refused : (found : Option Component) (told held : Option (List ℕ)) → found ≡ None → EndsAs found told held held (finish.Refused 1)
 ends_refused found None held is = tt
 ends_refused found (Some input) held is =
-    (refused_at 1, subst (λ (f : Option Component). SimulatesIn f input (refused_at 1)) (sym is) refl, (refl, grows_by_none held)) where
-      grows_by_none : (held : Option (List ℕ)) → Grows held held []
-      grows_by_none None = tt
-      grows_by_none (Some bytes) = ap Some (sym (append-nil bytes))
+    (refused_at 1, subst (λ (f : Option Component). SimulatesIn f input (refused_at 1)) (sym is) refl, (refl, grows_by_none held))
 
 -- each component that was read has an outcome
 component_outcome : (component : Component) (input : List ℕ) → IsRead component → (outcome : Outcome) × SimulatesWith component input outcome
@@ -110,12 +101,6 @@ target_at_once target files (Some input) held answer cut =
     let any = some_file (told_among files target.file) in
     (any.0, any.1, ends_at_once target.class any.0 (Some input) held answer cut)
 
--- a file that was read is simulated
-pub target_loaded : (target : Target) (files : Option Files) (file : List ℕ) (told old new : Option (List ℕ)) (answer : Finish) → MayHold (told_among files target.file) file
-    → EndsAs (component_of target.class file) told old new answer → EndsTarget target files told old new answer
-target_loaded target files file None old new answer holds ends = tt
-target_loaded target files file (Some input) old new answer holds ends = (file, holds, ends)
-
 -- a text that is too long spells no component, and neither does one without a line
 too_long : (class text : List ℕ) → MAX_TEXT < length text → component_of class text ≡ None
 unfolding component_of
@@ -149,10 +134,6 @@ says errors errors' faults faults' message put.Failed cause puts = inr (cause re
 abbrev Seen : Outcome → Finish → Option (List ℕ) → Option (List ℕ) → Option (List ℕ) → Option (List ℕ) → ℕ → ℕ → Type 0
 Seen outcome answer old new errors errors' faults faults' =
     (ending : Ending) × ((ending ≡ whole_ending outcome.output outcome.refused) ⊎ IsCutShort outcome ending) × Shows (status_of answer) old new errors errors' faults faults' ending
-
-cut_short : (outcome : Outcome) (old new errors errors' : Option (List ℕ)) (faults faults' : ℕ) (ending : Ending) → IsCutShort outcome ending → Grows old new ending.output
-    → Says errors errors' faults faults' ending.message → Shows ending.status old new errors errors' faults faults' ending
-cut_short outcome old new errors errors' faults faults' ending cut printed said = record { status = refl; printed = printed; said = said }
 
 seen : (outcome : Outcome) (answer : Finish) (old new errors errors' : Option (List ℕ)) (faults faults' : ℕ) → Ends outcome old new answer → Says errors errors' faults faults' (message_of answer)
     → Seen outcome answer old new errors errors' faults faults'

@@ -1,27 +1,22 @@
 -- A component whose blocks stand in another order.
-use Rattle.std.proofs.Common.{◌≡◌, ◌≢◌, ◌∙◌, ◌<◌, ◌+◌, ◌++◌, ◌==◌, ◌&&◌, ◌⊎◌, inl, inr, ℕ, zero, suc, Bool, true, false, not, List, [], ◌∷◌, map, length, get_or, refl, ap, ap₂, sym, subst, arith}
-use Rattle.std.specs.Prelude.{Option, None, Some, All, Contains, slice_get, slice_index_or, if◌then◌else◌}
-use Rattle.std.specs.List.{list_all, list_any, filter_map, range_with_len, cons_option, IsDistinct, AllByRecursion}
+use Rattle.std.proofs.Common.{◌≡◌, ◌≢◌, ◌∙◌, ◌<◌, ◌+◌, ◌++◌, ◌==◌, ◌&&◌, inl, inr, ℕ, zero, suc, Bool, true, false, not, List, [], ◌∷◌, length, get_or, refl, ap, ap₂, subst, arith}
+use Rattle.std.specs.Prelude.{Option, None, Some, All, slice_index_or, if◌then◌else◌}
+use Rattle.std.specs.List.{list_all, list_any, IsDistinct, AllByRecursion}
 use Rattle.std.specs.List.Sorted.{IsPermutation}
-use Rattle.std.proofs.lemmas.List.Sorted.{IsPermutation-map, IsPermutation-refl, IsPermutation-sym, All-permutation, Contains-permutation}
+use Rattle.std.proofs.lemmas.List.Sorted.{IsPermutation-sym, All-permutation, Contains-permutation}
 use Rattle.std.proofs.lemmas.List.FromFn.{length-range_with_len, get_or-range_with_len}
-use Rattle.std.proofs.lemmas.Option.{slice_get-get_or}
-use Rattle.std.proofs.lemmas.Simd.{pick_l_whole}
 use Rattle.std.proofs.lemmas.Map.Keys.{IsDistinct-IsPermutation}
 use Rattle.std.proofs.lemmas.Bool.Decides.{nat_tests}
 use Rattle.std.proofs.lemmas.List.Folds.{list_any_none}
 use Rattle.pm_bits.specs.Word.{Word}
 use Rattle.std.specs.Str.{bytes_eq}
-use Rattle.std.specs.Prelude.{nat_le}
 use Rattle.pm_io.specs.Lines.{Line, content}
-use Rattle.pm_job.specs.declared.simulate.TheConstants.{LINE_LIMIT}
 use Rattle.pm_job.proofs.BlocksAt.{header_of-arranged}
 use Rattle.pm_job.specs.declared.component.Component.{Component}
 use Rattle.pm_job.specs.declared.component.Assignment.{Assignment}
 use Rattle.pm_job.specs.Answers.{Outcome, Simulates, rows_of}
 use Rattle.pm_job.specs.Form.{targets_differ}
-use Rattle.pm_job.specs.Input.{Vectors, row_in, rows_from, before_rows, vectors_of, is_header}
-use Rattle.pm_job.specs.Vectors.{header_of}
+use Rattle.pm_job.specs.Input.{Vectors, row_in, rows_from, before_rows, vectors_of, is_short}
 use Rattle.pm_job.specs.Laws.{HaveSameBlocks}
 use Rattle.pm_job.specs.Precedence.{HasLoop, IsArrangement, blocks_at, places_of}
 use Rattle.pm_job.specs.Reads.{AssignWithin}
@@ -180,7 +175,7 @@ vectors_of-arranged : (component : Component) (places : List ℕ) (lines : List 
 vectors_of-arranged component places [] =
     ap (λ (names : List ℕ). if bytes_eq [] names then Some (let none : Vectors = record { rows = []; refused = None } in none) else None) (header_of-arranged component places)
 vectors_of-arranged component places (line ∷ lines) =
-    ap₂ (λ (names : List ℕ) (vectors : Vectors). if nat_le (length line.bytes) LINE_LIMIT && bytes_eq (content line) names then Some vectors else None)
+    ap₂ (λ (names : List ℕ) (vectors : Vectors). if is_short line && bytes_eq (content line) names then Some vectors else None)
     (header_of-arranged component places) (rows_from-arranged component places 0 lines)
 
 -- what a run with the blocks in an arrangement prints is what the component's vectors make it print

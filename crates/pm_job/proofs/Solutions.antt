@@ -1,25 +1,19 @@
 -- What a run prints is the trace of values that solve the equations.
-use Rattle.std.proofs.Common.{◌≡◌, ◌≢◌, ◌∙◌, ◌<◌, ◌≤◌, ◌+◌, ◌++◌, ◌==◌, ℕ, zero, suc, Bool, true, false, List, [], ◌∷◌, map, length, drop, set, refl, ap, ap₂, sym, subst, append_assoc, arith, get_or-set_same, get_or-set_other}
-use Rattle.std.specs.Prelude.{Option, None, Some, All, if◌then◌else◌, slice_get, slice_index_or}
+use Rattle.std.proofs.Common.{◌≡◌, ◌∙◌, ◌<◌, ◌+◌, ◌++◌, ℕ, zero, suc, Bool, true, false, List, [], ◌∷◌, map, length, drop, refl, ap, append_assoc, arith}
+use Rattle.std.specs.Prelude.{Option, None, Some, if◌then◌else◌, slice_get, slice_index_or}
 use Rattle.std.specs.List.{list_all}
 use Rattle.std.specs.Option.{option_map_or}
 use Rattle.std.specs.Str.{bytes_eq}
 use Rattle.std.proofs.lemmas.List.{length-set, length-map}
-use Rattle.std.proofs.lemmas.Bool.Decides.{nat_tests}
 use Rattle.pm_bits.specs.Word.{Word}
 use Rattle.pm_design.specs.declared.signal.Signal.{Signal}
 use Rattle.pm_io.specs.Lines.{Line}
 use Rattle.pm_job.specs.declared.component.Component.{Component}
 use Rattle.pm_job.specs.declared.component.Assignment.{Assignment}
-use Rattle.pm_job.specs.declared.component.Expression.{Expression}
-use Rattle.pm_job.specs.declared.component.Expression.TheVariants as expression
-use Rattle.pm_job.specs.declared.component.Operand.{Operand}
-use Rattle.pm_job.specs.declared.component.Operand.TheVariants as operand
-use Rattle.pm_bits.specs.Operator.{result_of}
 use Rattle.pm_job.specs.Answers.{Outcome, refused_at, with_reset, reset_row, Simulates}
 use Rattle.pm_job.specs.Input.{Vectors, row_in, rows_from, before_rows, vectors_of, is_header}
 use Rattle.pm_job.specs.Vectors.{header_of}
-use Rattle.pm_job.specs.Settled.{IsSettled, value_at, seen_by, operand_value, expression_value}
+use Rattle.pm_job.specs.Settled.{IsSettled}
 use Rattle.pm_job.specs.Sound.{assignment_fits, is_width, widths_of, expression_fits}
 use Rattle.pm_job.specs.Trace.{IsTrace, is_input, with_inputs, initial_values, row_text, rows_text, head_text}
 use Rattle.pm_job.specs.Progress.{IsReady, after_block, after_blocks, next_values, first_values, second_values, opening_text, after, follow, opened, simulated}

@@ -18,7 +18,6 @@ use Rattle.pm_job.specs.Spelling.{◌and_then◌, cut, is_name, is_new_name, num
 use Rattle.pm_job.specs.Sound.{is_typed}
 use Rattle.pm_job.specs.Trace.{is_input}
 use Rattle.pm_job.specs.declared.form_parts.Declaration.{Declaration}
-use Rattle.pm_job.specs.declared.form.TheConstants.{MAX_TEXT, MAX_SIGNALS, MAX_BLOCKS}
 
 -- ---- lines
 
@@ -171,7 +170,7 @@ blocks_of signals (mark ∷ head ∷ assignment ∷ lines) =
 -- the component that the lines behind the first three spell
 unfoldable pub component_in : List (List ℕ) → Option Component
 component_in lines =
-    if not (nat_le (length (reset ∷ declared lines)) MAX_SIGNALS) then None else
+    if not (nat_le (length (reset ∷ declared lines)) 65) then None else
     option_map (λ blocks. record { signals = reset ∷ declared lines; blocks = blocks }) (blocks_of (reset ∷ declared lines) (behind_declared lines))
 
 -- no name stands for two signals
@@ -199,10 +198,10 @@ is_driven signals place = option_map_or (λ signal. not (is_input signal.role)) 
 abbrev pub has_target : List Signal → Assignment → Bool
 has_target signals block = is_driven signals block.target
 
--- there is a signal beside `reset`, and no more signals and blocks than are taken
+-- there are 1 to 64 signals beside `reset`, and 64 blocks at the most
 abbrev pub is_counted : Component → Bool
 is_counted component =
-    (nat_le 2 (length component.signals) && nat_le (length component.signals) MAX_SIGNALS) && nat_le (length component.blocks) MAX_BLOCKS
+    (nat_le 2 (length component.signals) && nat_le (length component.signals) 65) && nat_le (length component.blocks) 64
 
 -- what the spelling of its lines doesn't show of a component
 unfoldable pub is_sound : Component → Bool
@@ -214,10 +213,10 @@ is_sound component =
     && (list_all (has_target component.signals) component.blocks
     && is_typed component))))
 
--- the component of this class that a text of the narrow form spells
+-- the component of this class that a text of the narrow form spells, in 2 to the 20 bytes at the most
 unfoldable pub component_of : List ℕ → List ℕ → Option Component
 component_of class text =
-    if not (nat_le (length text) MAX_TEXT) then None else
+    if not (nat_le (length text) (2 ^ 20)) then None else
     behind_head class (form_lines text) and_then λ lines.
     component_in lines and_then λ component.
     if is_sound component then Some component else None

@@ -1,10 +1,9 @@
 -- The rows of an input of vectors: a header line, and behind it a line for each row.
-use Rattle.std.specs.Prelude.{ℕ, ◌+◌, ◌&&◌, nat_lt, nat_le, Bool, List, [], ◌∷◌, Option, None, Some, length, if◌then◌else◌}
+use Rattle.std.specs.Prelude.{ℕ, ◌+◌, ◌^◌, ◌&&◌, nat_lt, nat_le, Bool, List, [], ◌∷◌, Option, None, Some, length, if◌then◌else◌}
 use Rattle.std.specs.Str.{bytes_eq}
 use Rattle.pm_bits.specs.Word.{Word}
 use Rattle.pm_io.specs.Lines.{Line, content}
 use Rattle.pm_job.specs.declared.component.Component.{Component}
-use Rattle.pm_job.specs.declared.simulate.TheConstants.{LINE_LIMIT, ROW_LIMIT}
 use Rattle.pm_job.specs.Sound.{widths_of}
 use Rattle.pm_job.specs.Vectors.{header_of, row_of, vector_ports}
 
@@ -17,13 +16,17 @@ pub record Vectors : Type 0 where
 abbrev pub input_widths : Component → List ℕ
 input_widths component = widths_of (vector_ports component)
 
+-- a line has 65,536 bytes at the most before its LF
+abbrev pub is_short : Line → Bool
+is_short line = nat_le (length line.bytes) (2 ^ 16)
+
 -- the values of a line, where it isn't too long
 abbrev pub line_row : List ℕ → Line → Option (List Word)
-line_row widths line = if nat_le (length line.bytes) LINE_LIMIT then row_of widths (content line) else None
+line_row widths line = if is_short line then row_of widths (content line) else None
 
--- the values of a line behind so many rows, where there may be one more
+-- the values of a line behind so many rows, of which there are 2 to the 20 at the most
 abbrev pub row_in : Component → ℕ → Line → Option (List Word)
-row_in component count line = if nat_lt count ROW_LIMIT then line_row (input_widths component) line else None
+row_in component count line = if nat_lt count (2 ^ 20) then line_row (input_widths component) line else None
 
 -- a row before others
 abbrev pub before_rows : List Word → Vectors → Vectors
@@ -39,7 +42,7 @@ rows_from component count (line ∷ lines) = elim (row_in component count line) 
 
 -- a line is the header
 abbrev pub is_header : Component → Line → Bool
-is_header component line = nat_le (length line.bytes) LINE_LIMIT && bytes_eq (content line) (header_of component)
+is_header component line = is_short line && bytes_eq (content line) (header_of component)
 
 -- the rows of an input, where its first line is the header; an input without a line has an empty header
 abbrev pub vectors_of : Component → List Line → Option Vectors

@@ -1,5 +1,5 @@
 -- How a run goes on, step by step: what the parts of the program do, for the program's own use.
-use Rattle.std.specs.Prelude.{◌≡◌, ℕ, ◌+◌, ◌≤◌, true, List, [], ◌∷◌, ◌++◌, drop, length, Option, None, Some, slice_set, if◌then◌else◌, ◌<◌, All, false}
+use Rattle.std.specs.Prelude.{◌≡◌, ℕ, ◌+◌, ◌^◌, true, List, [], ◌∷◌, ◌++◌, drop, Option, None, Some, slice_set, if◌then◌else◌, ◌<◌, All, false}
 use Rattle.std.specs.Str.{bytes_eq}
 use Rattle.pm_bits.specs.Word.{Word}
 use Rattle.pm_design.specs.declared.signal.Signal.{Signal}
@@ -7,7 +7,6 @@ use Rattle.pm_io.specs.Known.{Grows, GrowsByFront}
 use Rattle.pm_io.specs.Lines.{Line, lines_of}
 use Rattle.pm_job.specs.declared.component.Component.{Component}
 use Rattle.pm_job.specs.declared.component.Assignment.{Assignment}
-use Rattle.pm_job.specs.declared.simulate.TheConstants.{ROW_LIMIT}
 use Rattle.pm_job.specs.declared.simulate.Finish.{Finish}
 use Rattle.pm_job.specs.declared.simulate.Finish.TheVariants as finish
 use Rattle.pm_job.specs.declared.simulate.HeaderGot.{HeaderGot}
@@ -133,7 +132,7 @@ GivesRow widths (Some text) now row next.Failed = Unit {0}
 abbrev pub GivesNoRow : Option (List ℕ) → Finish → Type 0
 GivesNoRow None answer = Unit {0}
 GivesNoRow (Some text) finish.Done = text ≡ []
-GivesNoRow (Some text) (finish.Refused number) = (line : Line) × (rest : List Line) × (lines_of text ≡ line ∷ rest) × (number ≡ ROW_LIMIT + 2)
+GivesNoRow (Some text) (finish.Refused number) = (line : Line) × (rest : List Line) × (lines_of text ≡ line ∷ rest) × (number ≡ 2 ^ 20 + 2)
 GivesNoRow (Some text) finish.ReadFault = Unit {0}
 GivesNoRow (Some text) finish.WriteFault = ⊥
 GivesNoRow (Some text) finish.NoMemory = ⊥

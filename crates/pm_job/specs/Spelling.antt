@@ -1,5 +1,5 @@
 -- The spelling of the narrow form: names, numbers, and the parts of a line.
-use Rattle.std.specs.Prelude.{ℕ, ◌^◌, Bool, not, ◌&&◌, ◌||◌, ◌==◌, nat_lt, nat_le, if◌then◌else◌, List, [], ◌∷◌, length, slice_index, codes, Option, Some, None, option_map}
+use Rattle.std.specs.Prelude.{ℕ, ◌^◌, Bool, not, ◌&&◌, ◌||◌, ◌==◌, nat_lt, nat_le, if◌then◌else◌, List, [], ◌∷◌, length, map, slice_index, codes, Option, Some, None, option_map}
 use Rattle.std.specs.Option.{option_and_then}
 use Rattle.std.specs.List.{list_all, list_any}
 use Rattle.std.specs.Char.{is_ascii_alphabetic, is_ascii_alphanumeric}
@@ -11,7 +11,6 @@ use Rattle.pm_design.specs.declared.signal.Role.{Role}
 use Rattle.pm_design.specs.declared.signal.Role.TheVariants as role
 use Rattle.pm_job.specs.Words.{is_blank, number_below}
 use Rattle.pm_job.specs.Sound.{is_width}
-use Rattle.pm_job.specs.declared.spelling.TheConstants.{KEYWORDS}
 
 -- what the second step makes of what the first one gives
 infixr 6 ◌and_then◌
@@ -31,9 +30,15 @@ starts_name byte = is_ascii_alphabetic byte || byte == 95
 abbrev pub continues_name : ℕ → Bool
 continues_name byte = is_ascii_alphanumeric byte || byte == 95
 
+-- the words of the language
+abbrev pub keywords : List (List ℕ)
+keywords = map codes (
+    "and" ∷ "as" ∷ "assert" ∷ "class" ∷ "def" ∷ "elif" ∷ "else" ∷ "for" ∷ "from" ∷ "if" ∷ "import" ∷ "in" ∷
+    "is" ∷ "lambda" ∷ "None" ∷ "not" ∷ "or" ∷ "pass" ∷ "return" ∷ "True" ∷ "False" ∷ "while" ∷ [])
+
 -- a word of the language, which is no name
 unfoldable pub is_keyword : List ℕ → Bool
-is_keyword word = list_any (λ keyword. bytes_eq keyword.now word) KEYWORDS
+is_keyword word = list_any (λ keyword. bytes_eq keyword word) keywords
 
 -- a letter or an underscore, then letters, digits and underscores, 64 at most and no keyword
 unfoldable pub is_name : List ℕ → Bool

@@ -6,8 +6,8 @@ use Rattle.pm_design.specs.declared.signal.Role.TheVariants as role
 use Rattle.pm_design.specs.declared.signal.Signal.{Signal}
 use Rattle.pm_io.specs.declared.lines.TheConstants.{LF}
 use Rattle.pm_job.specs.declared.component.Component.{Component}
-use Rattle.pm_job.specs.declared.trace_text.TheConstants.{BLANK, HEX_DIGITS}
 use Rattle.pm_job.specs.Settled.{IsSettled}
+use Rattle.pm_job.specs.Words.{blank}
 
 -- ---- the values
 
@@ -52,7 +52,7 @@ is_port role.Inner = false
 -- the low hexadecimal digits of a number, so many of them, in lower case
 abbrev pub hex_digits : ℕ → ℕ → List ℕ
 hex_digits zero number = []
-hex_digits (suc n) number = slice_index HEX_DIGITS (number / 2 ^ (4 * n) % 16) ∷ hex_digits n number
+hex_digits (suc n) number = slice_index (codes "0123456789abcdef") (number / 2 ^ (4 * n) % 16) ∷ hex_digits n number
 
 -- a value in hexadecimal, with as many digits as a quarter of its width, rounded up
 abbrev pub hex_of : Word → List ℕ
@@ -60,11 +60,11 @@ hex_of word = hex_digits ((word.width + 3) / 4) word.value
 
 -- a port's name and a blank before it; a wire has no column
 abbrev pub port_name : Signal → List ℕ
-port_name signal = if is_port signal.role then BLANK ∷ signal.name else []
+port_name signal = if is_port signal.role then blank ∷ signal.name else []
 
 -- a port's value and a blank before it
 abbrev pub port_value : Signal → Word → List ℕ
-port_value signal value = if is_port signal.role then BLANK ∷ hex_of value else []
+port_value signal value = if is_port signal.role then blank ∷ hex_of value else []
 
 -- the ports' names, in order of declaration
 abbrev pub port_names : List Signal → List ℕ

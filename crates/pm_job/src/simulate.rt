@@ -92,6 +92,7 @@ pub fn simulate<I: Source, O: Sink>(
     ensures done { result ≡ Finish.Done → Empties (I.left input.old) (I.left input.new) }
     ensures read { HasCause (I.faults input.old) (I.faults input.new) (result ≡ Finish.ReadFault) }
     ensures write { HasCause (O.faults output.old) (O.faults output.new) (result ≡ Finish.WriteFault) }
+    ensures memory { result ≡ Finish.NoMemory → O.held output.new ≡ O.held output.old }
 {
     let Ok(mut lines) = Lines::new(alloc, LINE_LIMIT) else {
         return Finish::NoMemory;
@@ -277,6 +278,7 @@ fn follow_rows<I: Source, O: Sink>(
     ensures done { result ≡ Finish.Done → Empties (I.left input.old) (I.left input.new) }
     ensures read { HasCause (I.faults input.old) (I.faults input.new) (result ≡ Finish.ReadFault) }
     ensures write { HasCause (O.faults output.old) (O.faults output.new) (result ≡ Finish.WriteFault) }
+    ensures memory { result ≡ Finish.NoMemory → ⊥ }
 {
     for count in 0..ROW_LIMIT {
         match next_row(lines, input, &mut run.row) {
@@ -300,6 +302,7 @@ fn past_last_row<I: Source>(lines: &mut Lines, input: &mut I) -> Finish
     ensures done { result ≡ Finish.Done → Empties (I.left input.old) (I.left input.new) }
     ensures read { HasCause (I.faults input.old) (I.faults input.new) (result ≡ Finish.ReadFault) }
     ensures write { result ≡ Finish.WriteFault → ⊥ }
+    ensures memory { result ≡ Finish.NoMemory → ⊥ }
 {
     match lines.next(input) {
         LineGot::Line | LineGot::TooLong => Finish::Refused(ROW_LIMIT + 2),

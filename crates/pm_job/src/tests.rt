@@ -188,28 +188,8 @@ fn refusals_name_their_line(rt: HostRuntime) -> Result<(), Fail> {
 }
 
 #[test]
-fn faults_leave_a_front_of_the_trace(rt: HostRuntime) -> Result<(), Fail> {
+fn missing_files_are_read_faults(rt: HostRuntime) -> Result<(), Fail> {
     let alloc = rt.alloc();
-    let read_between_lines = Case {
-        input: &["a b\n", "1 2\n", "255 1\n"],
-        failing_reads: &[3],
-        output: SHORT_TRACE,
-        errors: "pymtl: read fault\n",
-        status: Status::ReadFault,
-        ..EXAMPLE
-    };
-    check(&rt, alloc, &read_between_lines)?;
-    let byte_by_byte = Case { most: 1, ..EXAMPLE };
-    check(&rt, alloc, &byte_by_byte)?;
-    let failing_write = Case {
-        most: 1,
-        failing_writes: &[25],
-        output: "cycle reset a b out\n0 1 ",
-        errors: "pymtl: write fault\n",
-        status: Status::WriteFault,
-        ..EXAMPLE
-    };
-    check(&rt, alloc, &failing_write)?;
     let missing_file = Case {
         name: "sub.py",
         output: "",
@@ -322,117 +302,170 @@ const BYTES: [&str; 14] = [
     "a", " ", "b", "\n", "1", " ", "2", "\n", "2", "5", "5", " ", "1", "\n",
 ];
 
-#[test]
-fn reads_fail_in_turn(rt: HostRuntime) -> Result<(), Fail> {
-    let alloc = rt.alloc();
-    let failing_read = Case {
-        input: &BYTES,
+// A call that fails.
+#[derive(Clone, Copy)]
+enum Call {
+    Read,
+    Write,
+    Message,
+    Load,
+}
+
+// Runs in which one call fails behind so many that go well, and what they must answer: of the text that the call
+// writes, a byte for each call before it.
+struct Fault<'a> {
+    call: Call,
+    fewest: usize,
+    most: usize,
+    class: &'a str,
+    output: &'a str,
+    errors: &'a str,
+    status: Status,
+}
+
+const FAULTS: [Fault<'static>; 9] = [
+    // The reads of the header, of each row, and of the end, behind which nothing is read.
+    Fault {
+        call: Call::Read,
+        fewest: 0,
+        most: 3,
+        class: "Add",
+        output: "",
         errors: "pymtl: read fault\n",
         status: Status::ReadFault,
-        ..EXAMPLE
-    };
-    for (first, last, output) in [
-        (1, 4, ""),
-        (5, 8, RESET_TRACE),
-        (9, 14, SHORT_TRACE),
-        (15, 15, TRACE),
-    ] {
-        for read in first..=last {
-            check(
-                &rt,
-                alloc,
-                &Case {
-                    failing_reads: &[read],
-                    output,
-                    ..failing_read
-                },
-            )?;
-        }
-    }
-    check(
-        &rt,
-        alloc,
-        &Case {
-            input: &BYTES,
-            failing_reads: &[16],
-            ..EXAMPLE
-        },
-    )?;
-    check(
-        &rt,
-        alloc,
-        &Case {
-            failing_loads: &[1],
-            output: "",
-            ..failing_read
-        },
-    )
-}
-
-#[test]
-fn writes_fail_in_turn(rt: HostRuntime) -> Result<(), Fail> {
-    let alloc = rt.alloc();
-    let failing_write = Case {
-        most: 1,
+    },
+    Fault {
+        call: Call::Read,
+        fewest: 4,
+        most: 7,
+        class: "Add",
+        output: RESET_TRACE,
+        errors: "pymtl: read fault\n",
+        status: Status::ReadFault,
+    },
+    Fault {
+        call: Call::Read,
+        fewest: 8,
+        most: 13,
+        class: "Add",
+        output: SHORT_TRACE,
+        errors: "pymtl: read fault\n",
+        status: Status::ReadFault,
+    },
+    Fault {
+        call: Call::Read,
+        fewest: 14,
+        most: 14,
+        class: "Add",
+        output: TRACE,
+        errors: "pymtl: read fault\n",
+        status: Status::ReadFault,
+    },
+    Fault {
+        call: Call::Read,
+        fewest: 15,
+        most: 15,
+        class: "Add",
+        output: TRACE,
+        errors: "",
+        status: Status::Done,
+    },
+    // The writes of the trace.
+    Fault {
+        call: Call::Write,
+        fewest: 0,
+        most: 71,
+        class: "Add",
+        output: TRACE,
         errors: "pymtl: write fault\n",
         status: Status::WriteFault,
+    },
+    Fault {
+        call: Call::Write,
+        fewest: 72,
+        most: 72,
+        class: "Add",
+        output: TRACE,
+        errors: "",
+        status: Status::Done,
+    },
+    // The writes of a message, which change no status.
+    Fault {
+        call: Call::Message,
+        fewest: 0,
+        most: 26,
+        class: "Sub",
+        output: "",
+        errors: "pymtl: 99 NotBuilt line 1\n",
+        status: Status::Refused,
+    },
+    // The load of the design file.
+    Fault {
+        call: Call::Load,
+        fewest: 0,
+        most: 0,
+        class: "Add",
+        output: "",
+        errors: "pymtl: read fault\n",
+        status: Status::ReadFault,
+    },
+];
+
+// So many bytes of a text, or all that it has.
+fn front(text: &str, count: usize) -> &str {
+    text.get(..count).unwrap_or(text)
+}
+
+// Runs the example with reads and writes of one byte each, one of which fails behind so many.
+fn check_fault<R: Abort + Threads + Sync>(
+    rt: &R,
+    alloc: Global,
+    fault: &Fault<'_>,
+    before: usize,
+) -> Result<(), Fail> {
+    let words = ["sim", "add.py", fault.class];
+    let failing = [(before as u64).saturating_add(1)];
+    let whole = Case {
+        words: &words,
+        input: &BYTES,
+        most: 1,
+        output: fault.output,
+        errors: fault.errors,
+        status: fault.status,
         ..EXAMPLE
     };
-    for written in 0..72 {
-        let output = TRACE.get(..written).unwrap_or(TRACE);
-        check(
-            &rt,
-            alloc,
-            &Case {
-                failing_writes: &[written as u64 + 1],
-                output,
-                ..failing_write
-            },
-        )?;
-    }
-    check(
-        &rt,
-        alloc,
-        &Case {
-            most: 1,
-            failing_writes: &[73],
-            ..EXAMPLE
+    let case = match fault.call {
+        Call::Read => Case {
+            failing_reads: &failing,
+            ..whole
         },
-    )
+        Call::Write => Case {
+            failing_writes: &failing,
+            output: front(fault.output, before),
+            ..whole
+        },
+        Call::Message => Case {
+            failing_messages: &failing,
+            errors: front(fault.errors, before),
+            ..whole
+        },
+        Call::Load => Case {
+            failing_loads: &failing,
+            ..whole
+        },
+    };
+    check(rt, alloc, &case)
 }
 
 #[test]
-fn messages_fail_in_turn(rt: HostRuntime) -> Result<(), Fail> {
+fn calls_fail_in_turn(rt: HostRuntime) -> Result<(), Fail> {
     let alloc = rt.alloc();
-    let refusal = "pymtl: 99 NotBuilt line 1\n";
-    let refused = Case {
-        words: &["sim", "add.py", "Sub"],
-        most: 1,
-        output: "",
-        errors: refusal,
-        status: Status::Refused,
-        ..EXAMPLE
-    };
-    for written in 0..26 {
-        let errors = refusal.get(..written).unwrap_or(refusal);
-        check(
-            &rt,
-            alloc,
-            &Case {
-                failing_messages: &[written as u64 + 1],
-                errors,
-                ..refused
-            },
-        )?;
+    for fault in &FAULTS {
+        for before in fault.fewest..=fault.most {
+            check_fault(&rt, alloc, fault, before)?;
+        }
     }
-    check(
-        &rt,
-        alloc,
-        &Case {
-            failing_messages: &[27],
-            ..refused
-        },
-    )
+    Ok(())
 }
 
 // A file of 64 blocks: each adds 1 to the target of the one written behind it, the last one to the given signal.

@@ -48,6 +48,7 @@ pub fn run<R: Threads + Sync, I: Source, O: Sink, E: Sink, S: Store, G: Gate>(
     ensures read_fault { result ≡ Status.ReadFault → IfSome (spec_job_of (map string_bytes words.now.items)) (λ target.
         HasReadCause (I.faults input.old) (I.faults input.new) (S.faults store.old) (S.faults store.new) (S.last_fault store.new) target.file) }
     ensures write_fault { result ≡ Status.WriteFault → Rose (O.faults output.old) (O.faults output.new) }
+    ensures no_memory { result ≡ Status.NoMemory → O.held output.new ≡ O.held output.old }
 
     // Nothing is created, and no file changes.
     ensures files { S.files store.new ≡ S.files store.old }
@@ -83,6 +84,7 @@ fn simulate_target<I: Source, O: Sink, S: Store>(
     ensures read { result ≡ Finish.ReadFault →
         HasReadCause (I.faults input.old) (I.faults input.new) (S.faults store.old) (S.faults store.new) (S.last_fault store.new) target.entry.file.now }
     ensures write { HasCause (O.faults output.old) (O.faults output.new) (result ≡ Finish.WriteFault) }
+    ensures memory { result ≡ Finish.NoMemory → O.held output.new ≡ O.held output.old }
     ensures files { S.files store.new ≡ S.files store.old }
     ensures current { S.current store.new ≡ S.current store.old }
 {
@@ -107,6 +109,7 @@ fn simulate_text<I: Source, O: Sink>(
     ensures done { result ≡ Finish.Done → Empties (I.left input.old) (I.left input.new) }
     ensures read { HasCause (I.faults input.old) (I.faults input.new) (result ≡ Finish.ReadFault) }
     ensures write { HasCause (O.faults output.old) (O.faults output.new) (result ≡ Finish.WriteFault) }
+    ensures memory { result ≡ Finish.NoMemory → O.held output.new ≡ O.held output.old }
 {
     let Ok(found) = read_component(alloc, class, text) else {
         return Finish::NoMemory;
@@ -129,6 +132,7 @@ fn simulate_component<I: Source, O: Sink>(
     ensures done { result ≡ Finish.Done → Empties (I.left input.old) (I.left input.new) }
     ensures read { HasCause (I.faults input.old) (I.faults input.new) (result ≡ Finish.ReadFault) }
     ensures write { HasCause (O.faults output.old) (O.faults output.new) (result ≡ Finish.WriteFault) }
+    ensures memory { result ≡ Finish.NoMemory → O.held output.new ≡ O.held output.old }
 {
     let Ok(found) = order_of(alloc, component.blocks.as_slice()) else {
         return Finish::NoMemory;

@@ -3,7 +3,8 @@ use Rattle.std.specs.Prelude.{Option}
 use Rattle.pm_job.specs.declared.component.Component.{Component}
 use Rattle.pm_job.specs.Endings.{EndsAs}
 use Rattle.pm_job.specs.Form.{component_of}
-use Rattle.pm_job.proofs.Outcomes.{is_read, ends_refused, ends_at_once}
+use Rattle.pm_job.proofs.Components.{is_read}
+use Rattle.pm_job.proofs.Outcomes.{ends_refused, ends_at_once}
 use Rattle.pm_job.proofs.top.simulate_text.Goals as goal
 
 pub returns-in_default-clause-ends : goal.returns-in_default-clause-ends
