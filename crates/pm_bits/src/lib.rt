@@ -14,7 +14,7 @@
 //! - `bits`: the type [`Bits`], with `new`, `of_int`, `width` and `value`
 //! - `arithmetic`: `add`, `sub`, `mul`
 //! - `bitwise`: `and`, `or`, `xor`, `not`, `shl`, `shr`, `reduce_and`, `reduce_or`, `reduce_xor`
-//! - `compare`: `eq_bit`, `ne_bit`, `lt_bit`, `le_bit`, `gt_bit`, `ge_bit`
+//! - `comparison`: `eq_bit`, `ne_bit`, `lt_bit`, `le_bit`, `gt_bit`, `ge_bit`
 //! - `parts`: `slice`, `with_slice`, `concat`, `zext`, `sext`, `trunc`
 //! - `operator`: the enums [`Op`] and [`Fold`], each with `apply`
 //! - [`laws`]: the laws of the definitions
@@ -23,7 +23,7 @@
 mod arithmetic;
 mod bits;
 mod bitwise;
-mod compare;
+mod comparison;
 pub mod laws;
 mod operator;
 mod parts;
