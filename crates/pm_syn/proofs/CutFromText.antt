@@ -1,5 +1,5 @@
 -- That the logical lines of a text are cut from it.
-use Rattle.std.proofs.Common.{◌≡◌, ◌<◌, ◌≤◌, ◌+◌, ℕ, Bool, true, false, if◌then◌else◌, nat_lt, List, [], ◌∷◌, ◌++◌, suc, map, length, take, drop, arith, refl, sym, ap, subst, ◌∙◌, append-nil, append_assoc}
+use Rattle.std.proofs.Common.{◌≡◌, ◌<◌, ◌≤◌, ◌+◌, ℕ, Bool, true, false, if◌then◌else◌, List, [], ◌∷◌, ◌++◌, suc, map, length, take, drop, arith, refl, sym, ap, subst, ◌∙◌, append-nil, append_assoc}
 use Rattle.std.specs.Prelude.{All, Option, None, Some}
 use Rattle.std.specs.List.{AllPairs, between, flat_map}
 use Rattle.std.specs.Option.{option_to_list, IfSome}
@@ -10,8 +10,6 @@ use Rattle.std.proofs.lemmas.List.Elements.{All-nil, All-cons, All-push, All-pop
 use Rattle.std.proofs.lemmas.List.Kept.{AllPairs-cons}
 use Rattle.std.proofs.lemmas.List.Quantifiers.{all_pairs_push}
 use Rattle.pm_syn.specs.CutLines.{AreCutFrom, IsCutFrom, IsLineOf}
-use Rattle.pm_syn.specs.Faults.{faults_behind, faults_of_line, length_of}
-use Rattle.pm_syn.specs.Indentation.{columns_with, is_placed}
 use Rattle.pm_syn.specs.Laws.{LinesAreCutFromTheText}
 use Rattle.pm_syn.specs.Lexemes.{HasWidth, Lexeme, Stands}
 use Rattle.pm_syn.specs.LogicalLines.{begun_behind, begun_line, column_of, continued, drafts_of, ended_behind, ended_lines, indentation_of, line_from, token_of}
@@ -19,10 +17,6 @@ use Rattle.pm_syn.specs.Places.{last_line, line_behind}
 use Rattle.pm_syn.specs.Reading.{Reads, are_closed, brackets_of, bytes_of, line_of}
 use Rattle.pm_syn.specs.Tokens.{IsLongestToken}
 use Rattle.pm_syn.specs.declared.draft.Draft.{Draft}
-use Rattle.pm_syn.specs.declared.draft.Indentation.{Indentation}
-use Rattle.pm_syn.specs.declared.draft.Indentation.TheVariants as indentation
-use Rattle.pm_syn.specs.declared.fault.TextFault.{TextFault}
-use Rattle.pm_syn.specs.declared.fault.TextFault.TheVariants as fault
 use Rattle.pm_syn.specs.declared.lexeme.Sort.{Sort}
 use Rattle.pm_syn.specs.declared.lexeme.Sort.TheVariants as sort
 use Rattle.pm_syn.specs.declared.token.Line.{Line}
@@ -31,6 +25,7 @@ use Rattle.pm_syn.specs.declared.token.TokenKind.{TokenKind}
 use Rattle.pm_syn.proofs.Ascending.{ascending}
 use Rattle.pm_syn.proofs.FirstBytes.{token_some}
 use Rattle.pm_syn.proofs.BlanksBefore.{IsBlank, blank_token, column_blanks}
+use Rattle.pm_syn.proofs.LineFaults.{IsFaultless, all_faultless, first_behind-faultless}
 use Rattle.pm_syn.proofs.OneReading.{read_nothing, read_one}
 use Rattle.pm_syn.proofs.ReadOn.{between_front}
 
@@ -218,37 +213,15 @@ all_read text (lexeme ∷ before) rest read =
 
 -- ---- logical lines without faults
 
--- no tab indents the logical line
-abbrev HasColumn : Draft → Type 0
-HasColumn draft = draft.indentation ≡ indentation.Blanks (column_of draft.indentation)
-
-placed_column : (indent : Indentation) (earlier : List ℕ) (number : ℕ) (rest : List TextFault)
-    → ((if is_placed indent earlier then [] else fault.BadIndent number ∷ []) ++ rest) ≡ [] → indent ≡ indentation.Blanks (column_of indent)
-placed_column (indentation.Blanks column) earlier number rest none = refl
-placed_column indentation.Tabbed earlier number rest none = absurd (cc)
-
--- nothing is on both sides of nothing
-append_none : (front rest : List TextFault) → front ++ rest ≡ [] → (front ≡ []) × (rest ≡ [])
-append_none [] rest none = (refl, none)
-append_none (first ∷ front) rest none = absurd (cc)
-
-have_columns : (earlier : List ℕ) (drafts : List Draft) → faults_behind earlier drafts ≡ [] → All HasColumn drafts
-have_columns earlier [] none = All-nil HasColumn
-have_columns earlier (draft ∷ drafts) none =
-    let parts = append_none (faults_of_line earlier draft) (faults_behind (columns_with draft.indentation earlier) drafts) none in
-    let long : List TextFault = if nat_lt 4096 (length_of draft.tokens) then fault.LineTooLong draft.number ∷ [] else [] in
-    All-cons HasColumn draft drafts (placed_column draft.indentation earlier draft.number long parts.0) (
-    have_columns (columns_with draft.indentation earlier) drafts parts.1)
-
--- a logical line that no tab indents
-line_cut : (text : List ℕ) (draft : Draft) → IsReadFrom text draft → HasColumn draft → IsLineOf text (line_from draft)
-line_cut text draft is placed = record {
+-- a logical line without faults is cut from the text
+line_cut : (text : List ℕ) (draft : Draft) → IsReadFrom text draft → IsFaultless draft → IsLineOf text (line_from draft)
+line_cut text draft is faultless = record {
   first = is.first;
   others = is.others;
   tokens = is.tokens;
   cut = is.cut;
   number = is.number;
-  column = column_blanks (last_line (take is.first.start text)) (column_of draft.indentation) is.blanks (sym is.indentation ∙ placed);
+  column = column_blanks (last_line (take is.first.start text)) (column_of draft.indentation) is.blanks (sym is.indentation ∙ faultless.indentation);
 }
 
 -- pairs of what is made of elements
@@ -268,9 +241,9 @@ pub lines_cut : LinesAreCutFromTheText
 lines_cut text lines is =
     let drafts : List Draft = drafts_of is.lexemes in
     let read = all_read text is.lexemes [] is.read in
-    let columns = have_columns (0 ∷ []) drafts is.faultless in
+    let faultless = all_faultless (0 ∷ []) drafts (first_behind-faultless drafts is.faultless) in
     let each : All (λ draft. IsLineOf text (line_from draft)) drafts =
-    λ k d within. line_cut text _ (read k d within) (columns k d within) in
+    λ k d within. line_cut text _ (read k d within) (faultless k d within) in
     subst (AreCutFrom text) (sym is.made) (record {
       each = All-map (IsLineOf text) line_from drafts each;
       ascend = AllPairs-map (λ line next. line.number < next.number) line_from drafts (ascending text is.lexemes [] is.read);

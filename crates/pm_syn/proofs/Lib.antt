@@ -4,8 +4,10 @@ pub mod BlanksBefore
 pub mod Comments
 pub mod CutFromText
 pub mod Digits
+pub mod FallingColumns
 pub mod FirstBytes
 pub mod HeadsAt
+pub mod IndentedLines
 pub mod LineEnds
 pub mod LineEndsBetween
 pub mod LineFaults

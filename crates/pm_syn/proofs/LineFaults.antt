@@ -1,14 +1,19 @@
 -- The first fault of logical lines, found with the columns to which a line may return.
-use Rattle.std.proofs.Common.{◌≡◌, ◌∙◌, ◌<◌, ◌≤◌, ◌++◌, ℕ, suc, Bool, true, false, List, [], ◌∷◌, length, drop, get_or, refl, ap, sym, drop-cons}
-use Rattle.std.specs.Prelude.{nat_lt, if◌then◌else◌, Option, Some, None, slice_get}
+use Rattle.std.proofs.Common.{◌≡◌, ◌∙◌, ◌<◌, ◌≤◌, ◌++◌, ℕ, suc, Bool, true, false, List, [], ◌∷◌, length, drop, get_or, arith, refl, ap, sym, drop-cons}
+use Rattle.std.specs.Prelude.{nat_lt, if◌then◌else◌, All, Option, Some, None, slice_get}
+use Rattle.std.proofs.lemmas.Bool.Decides.{nat_tests}
 use Rattle.std.proofs.lemmas.List.{drop_all}
-use Rattle.pm_syn.specs.Indentation.{is_placed, columns_with}
-use Rattle.pm_syn.specs.ColumnStack.{behind_line}
+use Rattle.std.proofs.lemmas.List.Elements.{All-nil, All-cons}
+use Rattle.pm_syn.specs.Indentation.{is_column, is_placed, columns_with}
+use Rattle.pm_syn.specs.ColumnStack.{behind_column, behind_line}
 use Rattle.pm_syn.specs.Faults.{faults_behind, line_faults, length_of}
+use Rattle.pm_syn.specs.LogicalLines.{column_of}
 use Rattle.pm_syn.specs.declared.draft.Draft.{Draft}
+use Rattle.pm_syn.specs.declared.draft.Indentation.{Indentation}
+use Rattle.pm_syn.specs.declared.draft.Indentation.TheVariants as indentation
 use Rattle.pm_syn.specs.declared.fault.TextFault.{TextFault}
 use Rattle.pm_syn.specs.declared.fault.TextFault.TheVariants as fault
-use Rattle.pm_syn.proofs.StackedColumns.{StandsFor, is_placed-same, stands_behind_line}
+use Rattle.pm_syn.proofs.StackedColumns.{StandsFor, is_placed-same, stands_behind_line, stands_for_itself}
 
 -- the first fault of these lines, behind lines that may be returned to at these columns
 abbrev pub first_behind : List ℕ → List Draft → Option TextFault
@@ -45,7 +50,7 @@ slice_get-faults_behind (draft ∷ drafts) columns earlier stands =
 
 -- behind no line the first may stand where it may stand behind column 0
 pub first_behind-start : (drafts : List Draft) → first_behind (0 ∷ []) drafts ≡ slice_get (line_faults drafts) 0
-first_behind-start drafts = sym (slice_get-faults_behind drafts (0 ∷ []) (0 ∷ []) (record { deeper = λ column. refl; returns = λ column. refl }))
+first_behind-start drafts = sym (slice_get-faults_behind drafts (0 ∷ []) (0 ∷ []) (stands_for_itself (0 ∷ [])))
 
 -- behind the last line there is no fault
 pub first_behind-end : (columns : List ℕ) (drafts : List Draft) (count : ℕ) → length drafts ≤ count → first_behind columns (drop count drafts) ≡ None
@@ -62,3 +67,55 @@ module _ (columns : List ℕ) (drafts : List Draft) (count : ℕ) (draft : Draft
   pub first_behind-long : is_placed draft.indentation columns ≡ true → nat_lt 4096 (length_of draft.tokens) ≡ true
       → first_behind columns (drop count drafts) ≡ Some (fault.LineTooLong draft.number)
   first_behind-long placed long = next_is ∙ rw (placed, long) refl
+
+-- ---- lines without faults
+
+-- no tab indents the line, and it is not too long
+pub record IsFaultless (draft : Draft) : Type 0 where
+  pub indentation : draft.indentation ≡ indentation.Blanks (column_of draft.indentation)
+  pub short : length_of draft.tokens ≤ 4096
+
+-- the line is faultless and may stand at its column, and no line behind it has a fault
+pub record AreFaultless (columns : List ℕ) (draft : Draft) (drafts : List Draft) : Type 0 where
+  pub itself : IsFaultless draft
+  pub placed : is_column (column_of draft.indentation) columns ≡ true
+  pub later : first_behind (behind_column (column_of draft.indentation) columns) drafts ≡ None
+
+-- no tab indents a line that may stand there
+blanks_placed : (indent : Indentation) (columns : List ℕ) → is_placed indent columns ≡ true → indent ≡ indentation.Blanks (column_of indent)
+blanks_placed (indentation.Blanks column) columns placed = refl
+blanks_placed indentation.Tabbed columns placed = absurd (cc)
+
+-- there is no fault of a line, nor of those behind it
+none_first : (placed long : Bool) (number : ℕ) (first : Option TextFault)
+    → (if placed then (if long then Some (fault.LineTooLong number) else first) else Some (fault.BadIndent number)) ≡ None
+    → (placed ≡ true) × (long ≡ false) × (first ≡ None)
+none_first true true number first none = absurd (cc)
+none_first true false number first none = (refl, refl, none)
+none_first false long number first none = absurd (cc)
+
+-- where no line has a fault, the next one has none, nor have those behind it
+pub first_behind-none : (columns : List ℕ) (draft : Draft) (drafts : List Draft) → first_behind columns (draft ∷ drafts) ≡ None
+    → AreFaultless columns draft drafts
+first_behind-none columns draft drafts none =
+    let long = nat_lt 4096 (length_of draft.tokens) in
+    let rest = first_behind (behind_line draft.indentation columns) drafts in
+    let parts = none_first (is_placed draft.indentation columns) long draft.number rest none in
+    let blanks = blanks_placed draft.indentation columns parts.0 in
+    let within : nat_lt 4096 (length_of draft.tokens) ≡ false = parts.1 in
+    record {
+      itself = record { indentation = blanks; short = grind (arith, nat_tests) };
+      placed = ap (λ (indent : Indentation). is_placed indent columns) (sym blanks) ∙ parts.0;
+      later = ap (λ (indent : Indentation). first_behind (behind_line indent columns) drafts) (sym blanks) ∙ parts.2;
+    }
+
+-- where no line has a fault, each is faultless
+pub all_faultless : (columns : List ℕ) (drafts : List Draft) → first_behind columns drafts ≡ None → All IsFaultless drafts
+all_faultless columns [] none = All-nil IsFaultless
+all_faultless columns (draft ∷ drafts) none =
+    let are = first_behind-none columns draft drafts none in
+    All-cons IsFaultless draft drafts are.itself (all_faultless (behind_column (column_of draft.indentation) columns) drafts are.later)
+
+-- no first fault is found where there are no line faults
+pub first_behind-faultless : (drafts : List Draft) → line_faults drafts ≡ [] → first_behind (0 ∷ []) drafts ≡ None
+first_behind-faultless drafts none = first_behind-start drafts ∙ ap (λ (faults : List TextFault). slice_get faults 0) none

@@ -13,6 +13,10 @@ pub record StandsFor (columns earlier : List ℕ) : Type 0 where
   pub deeper : (column : ℕ) → is_deeper column columns ≡ is_deeper column earlier
   pub returns : (column : ℕ) → returns_to column columns ≡ returns_to column earlier
 
+-- columns stand for themselves
+pub stands_for_itself : (columns : List ℕ) → StandsFor columns columns
+stands_for_itself columns = record { deeper = λ column. refl; returns = λ column. refl }
+
 -- a column is returned to where it is the nearest one behind those that are left
 pub is_nearest-down_to : (column : ℕ) (columns : List ℕ) → is_nearest column (down_to column columns) ≡ returns_to column columns
 is_nearest-down_to column [] = refl
@@ -44,12 +48,14 @@ level_with x column nearest rest same =
       | inr over ↦ rw over refl
     ])
 
-returns_farther : (column nearest : ℕ) (rest : Bool) → nat_lt column nearest ≡ true → (column == nearest || (nat_lt column nearest && rest)) ≡ true → rest ≡ true
+-- a line that returns past this one returns behind it
+pub returns_farther : (column nearest : ℕ) (rest : Bool) → nat_lt column nearest ≡ true → (column == nearest || (nat_lt column nearest && rest)) ≡ true → rest ≡ true
 returns_farther column nearest rest under returns =
     let other : (column == nearest) ≡ false = grind (arith, nat_tests) in
     sym (ap₂ (λ (a b : Bool). a || (b && rest)) other under) ∙ returns
 
-returns_there : (column nearest : ℕ) (rest : Bool) → nat_lt column nearest ≡ false → (column == nearest || (nat_lt column nearest && rest)) ≡ true → column ≡ nearest
+-- a line that returns no farther returns to this one
+pub returns_there : (column nearest : ℕ) (rest : Bool) → nat_lt column nearest ≡ false → (column == nearest || (nat_lt column nearest && rest)) ≡ true → column ≡ nearest
 returns_there column nearest rest over returns = grind (arith, nat_tests, rw over at returns)
 
 -- a line behind those that are left returns to this column, or to one that it may have returned to
@@ -81,14 +87,17 @@ is_deeper-down_to x column (nearest ∷ columns) returns =
           ∙ ap (λ (n : ℕ). nat_lt n x) (sym (returns_there column nearest (returns_to column columns) level returns))
     ]
 
-is_column-same : {columns earlier : List ℕ} → StandsFor columns earlier → (column : ℕ) → is_column column columns ≡ is_column column earlier
+-- a line may stand at this column behind the one or the other
+pub is_column-same : {columns earlier : List ℕ} → StandsFor columns earlier → (column : ℕ) → is_column column columns ≡ is_column column earlier
 is_column-same stands column = ap₂ (λ (a b : Bool). a || b) (stands.deeper column) (stands.returns column)
 
+-- a line with this indentation may stand behind the one or the other
 pub is_placed-same : {columns earlier : List ℕ} → StandsFor columns earlier → (place : Indentation) → is_placed place columns ≡ is_placed place earlier
 is_placed-same stands (indentation.Blanks column) = is_column-same stands column
 is_placed-same stands indentation.Tabbed = refl
 
-stands_behind_column : {columns earlier : List ℕ} → StandsFor columns earlier → (column : ℕ) → is_column column columns ≡ true
+-- behind a line that may stand at this column the columns still stand for all earlier ones
+pub stands_behind_column : {columns earlier : List ℕ} → StandsFor columns earlier → (column : ℕ) → is_column column columns ≡ true
     → StandsFor (behind_column column columns) (column ∷ earlier)
 stands_behind_column {columns} {earlier} stands column may =
     elim (cases_Bool (is_deeper column columns)) [
@@ -105,7 +114,7 @@ stands_behind_column {columns} {earlier} stands column may =
           })
     ]
 
--- behind a line that may stand there the columns still stand for all earlier ones
+-- behind a line with this indentation that may stand there they do too
 pub stands_behind_line : {columns earlier : List ℕ} → StandsFor columns earlier → (place : Indentation) → is_placed place columns ≡ true
     → StandsFor (behind_line place columns) (columns_with place earlier)
 stands_behind_line stands (indentation.Blanks column) may = stands_behind_column stands column may

@@ -14,6 +14,7 @@ pub mod ColumnStack
 pub mod Faults
 pub mod Answers
 pub mod CutLines
+pub mod IndentedLines
 pub mod Spaces
 pub mod Laws
 pub mod LiteralParts

@@ -18,3 +18,15 @@ pub fn lines_are_cut_from_the_text()
 pub fn gaps_and_line_ends_stand_between_tokens()
     ensures { law.GapsAndLineEndsStandBetweenTokens }
 {}
+
+/// The logical lines of a text stand at columns of a stack that begins with 0: each is greater than the one before it, or
+/// stands on the stack. The tokens of none, other than strings, pass 4,096 bytes.
+pub fn lines_are_indented()
+    ensures { law.LinesAreIndented }
+{}
+
+/// Behind lines at columns of a stack, a line may stand at a column, by the nearest earlier line that is no deeper, exactly
+/// where the stack allows it.
+pub fn columns_are_those_of_a_stack()
+    ensures { law.ColumnsAreThoseOfAStack }
+{}
