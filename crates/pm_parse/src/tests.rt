@@ -1,10 +1,11 @@
 //! Files and what they are read as.
 use crate::parse;
 use pm_io::List;
-use pm_syn::{Line, Node, Stmt, lex};
+use pm_syn::{Line, Node, lex};
 use std::alloc::{AllocError, Global};
 use std::process::Abort;
 use std::test::Fail;
+use tree_text::write_nodes;
 
 // What stands before some lines in a file, and what stands around their outline.
 #[derive(Drop)]
@@ -14,8 +15,7 @@ struct Surroundings {
     behind: &'static str,
 }
 
-// The nodes of a text's tree, each as its line's number, its first word and its body in brackets; or the name of the
-// fault.
+// The nodes of a text's tree, each as its line's number and its body in brackets; or the name of the fault.
 fn outline_of(alloc: Global, text: &str) -> Result<Vec<u8>, Fail> {
     let lines = lex(alloc, text.as_bytes())?;
     Ok(outline_of_lines(alloc, lines.as_slice())?)
@@ -28,51 +28,6 @@ fn outline_of_lines(alloc: Global, lines: &[Line]) -> Result<Vec<u8>, AllocError
         Err(fault) => outline.extend_from_slice(format!(in alloc; "{fault:?}")?.as_bytes())?,
     }
     Ok(outline)
-}
-
-#[cycle(nodes)]
-fn write_nodes(alloc: Global, nodes: &[Node], outline: &mut Vec<u8>) -> Result<(), AllocError> {
-    for node in nodes {
-        write_node(alloc, node, outline)?;
-    }
-    Ok(())
-}
-
-#[cycle(nodes)]
-fn write_node(alloc: Global, node: &Node, outline: &mut Vec<u8>) -> Result<(), AllocError> {
-    outline.extend_from_slice(format!(in alloc;
-        " {} {}",
-        node.line,
-        sort_of(&node.stmt)
-    )?.as_bytes())?;
-    if !node.body.is_empty() {
-        outline.extend_from_slice(b" [")?;
-        write_nodes(alloc, node.body.as_slice(), outline)?;
-        outline.extend_from_slice(b" ]")?;
-    }
-    Ok(())
-}
-
-fn sort_of(statement: &Stmt) -> &'static str {
-    match statement {
-        Stmt::Import => "import",
-        Stmt::Doc => "doc",
-        Stmt::Pass => "pass",
-        Stmt::Class(_, _) => "class",
-        Stmt::Def(_, _, _, _, _) => "def",
-        Stmt::Mark(_) => "mark",
-        Stmt::NonBlocking(_) => "guard",
-        Stmt::Return(_) => "return",
-        Stmt::Assert(_) => "assert",
-        Stmt::If(_, _) => "if",
-        Stmt::Elif(_, _) => "elif",
-        Stmt::Else(_) => "else",
-        Stmt::For(_, _, _) => "for",
-        Stmt::Assign(_, _, _) => "assign",
-        Stmt::JoinLambda(_, _) => "lambda",
-        Stmt::Note(_, _, _) => "note",
-        Stmt::Do(_) => "do",
-    }
 }
 
 fn check(rt: &impl Abort, alloc: Global, text: &str, outline: &str) -> Result<(), Fail> {
@@ -105,26 +60,26 @@ fn check_lines(
 
 const IN_FILE: &[(&str, &str)] = &[
     ("", ""),
-    ("x = 1\n", " 1 assign"),
+    ("x = 1\n", " 1"),
     (
         "'a'\nfrom pymtl3 import *\nfrom collections import deque\n\nn = 2\n",
-        " 1 doc 2 import 3 import 5 assign",
+        " 1 2 3 5",
     ),
     (
         "@bitstruct\nclass P:\n  a: Bits4\n  'doc'\n  b: Bits8\nn = 1\n",
-        " 1 mark 2 class [ 3 note 4 doc 5 note ] 6 assign",
+        " 1 2 [ 3 4 5 ] 6",
     ),
     (
         "class A( Component ): # one\n\n   pass\nclass B( Component ):\n pass\n",
-        " 1 class [ 3 pass ] 4 class [ 5 pass ]",
+        " 1 [ 3 ] 4 [ 5 ]",
     ),
     (
         "class A( Interface ):\n  'doc'\n  pass\n  def construct( s, n ):\n    s.a = InPort( n )\n",
-        " 1 class [ 2 doc 3 pass 4 def [ 5 assign ] ]",
+        " 1 [ 2 3 4 [ 5 ] ]",
     ),
     (
         "class A( Component ):\n  def construct( s ): pass\nclass B( Component ):\n  def construct( s ): pass\n",
-        " 1 class [ 2 def ] 3 class [ 4 def ]",
+        " 1 [ 2 ] 3 [ 4 ]",
     ),
     ("pass\n", "Layout(1)"),
     ("s.x = 1\n", "Layout(1)"),
@@ -179,25 +134,25 @@ fn files_hold_classes(rt: HostRuntime) -> Result<(), Fail> {
 }
 
 const IN_COMPONENT: &[(&str, &str)] = &[
-    ("  pass\n", " 2 pass"),
-    ("  'doc'\n  pass\n", " 2 doc 3 pass"),
-    ("  def construct( s ): pass\n", " 2 def"),
+    ("  pass\n", " 2"),
+    ("  'doc'\n  pass\n", " 2 3"),
+    ("  def construct( s ): pass\n", " 2"),
     (
         "  def construct( s, n: int=3 ) -> None:\n    s.x = Wire( n )\n",
-        " 2 def [ 3 assign ]",
+        " 2 [ 3 ]",
     ),
-    ("  def m( s ) -> Bits8: return s.x\n", " 2 def"),
+    ("  def m( s ) -> Bits8: return s.x\n", " 2"),
     (
         "  def m( s ) -> Bits8:\n    return 1\n  def n( s ): pass\n",
-        " 2 def [ 3 return ] 4 def",
+        " 2 [ 3 ] 4",
     ),
     (
         "  def m( s ): pass\n  def construct( s ):\n    pass\n  def n( s ): pass\n",
-        " 2 def 3 def [ 4 pass ] 5 def",
+        " 2 3 [ 4 ] 5",
     ),
     (
         "  @non_blocking( lambda s: s.x )\n  def m( s ): pass\n",
-        " 2 guard 3 def",
+        " 2 3",
     ),
     ("  from pymtl3 import *\n", "Layout(2)"),
     ("  x = 1\n", "Layout(2)"),
@@ -245,17 +200,14 @@ const IN_COMPONENT: &[(&str, &str)] = &[
 fn component_classes_hold_methods(rt: HostRuntime) -> Result<(), Fail> {
     let surroundings = Surroundings {
         lines: "class A( Component ):\n",
-        before: " 1 class [",
+        before: " 1 [",
         behind: " ]",
     };
     check_lines(&rt, rt.alloc(), &surroundings, IN_COMPONENT)
 }
 
 const IN_INTERFACE: &[(&str, &str)] = &[
-    (
-        "  'doc'\n  def construct( s ): pass\n  pass\n",
-        " 2 doc 3 def 4 pass",
-    ),
+    ("  'doc'\n  def construct( s ): pass\n  pass\n", " 2 3 4"),
     ("  def m( s ): pass\n", "Layout(2)"),
     (
         "  @non_blocking( lambda s: 1 )\n  def m( s ): pass\n",
@@ -273,15 +225,15 @@ const IN_INTERFACE: &[(&str, &str)] = &[
 fn interface_classes_hold_one_construct(rt: HostRuntime) -> Result<(), Fail> {
     let surroundings = Surroundings {
         lines: "class A( Interface ):\n",
-        before: " 1 class [",
+        before: " 1 [",
         behind: " ]",
     };
     check_lines(&rt, rt.alloc(), &surroundings, IN_INTERFACE)
 }
 
 const IN_BITSTRUCT: &[(&str, &str)] = &[
-    ("  a: Bits4\n  b: mk_bits( 3 )\n", " 3 note 4 note"),
-    ("  'doc'\n", " 3 doc"),
+    ("  a: Bits4\n  b: mk_bits( 3 )\n", " 3 4"),
+    ("  'doc'\n", " 3"),
     ("  pass\n", "Layout(3)"),
     ("  a: Bits4 = 1\n", "Layout(3)"),
     ("  a = 1\n", "Layout(3)"),
@@ -293,56 +245,50 @@ const IN_BITSTRUCT: &[(&str, &str)] = &[
 fn bitstruct_classes_hold_fields(rt: HostRuntime) -> Result<(), Fail> {
     let surroundings = Surroundings {
         lines: "@bitstruct\nclass A:\n",
-        before: " 1 mark 2 class [",
+        before: " 1 2 [",
         behind: " ]",
     };
     check_lines(&rt, rt.alloc(), &surroundings, IN_BITSTRUCT)
 }
 
 const IN_CONSTRUCT: &[(&str, &str)] = &[
-    (
-        "    'doc'\n    pass\n    assert n > 1, 'n'\n",
-        " 3 doc 4 pass 5 assert",
-    ),
+    ("    'doc'\n    pass\n    assert n > 1, 'n'\n", " 3 4 5"),
     (
         "    k = 1\n    s.x = Wire( k )\n    s.y[k] = s.x\n",
-        " 3 assign 4 assign 5 assign",
+        " 3 4 5",
     ),
-    (
-        "    s.a //= s.b\n    s.a //= lambda: s.b + 1\n",
-        " 3 assign 4 lambda",
-    ),
+    ("    s.a //= s.b\n    s.a //= lambda: s.b + 1\n", " 3 4"),
     (
         "    s.d : Bits8 = deque( maxlen=2 )\n    n : Bits8 = 0\n",
-        " 3 note 4 note",
+        " 3 4",
     ),
     (
         "    connect( s.a, s.b )\n    s.add_constraints( U( f ) < U( g ) )\n",
-        " 3 do 4 do",
+        " 3 4",
     ),
     (
         "    if a: s.x = 1\n    elif b:\n      s.x = 2\n    elif c: pass\n    else: s.x = 3\n",
-        " 3 if 4 elif [ 5 assign ] 6 elif 7 else",
+        " 3 4 [ 5 ] 6 7",
     ),
     (
         "    if a:\n      if b: pass\n      else:\n        pass\n    else:\n      pass\n",
-        " 3 if [ 4 if 5 else [ 6 pass ] ] 7 else [ 8 pass ]",
+        " 3 [ 4 5 [ 6 ] ] 7 [ 8 ]",
     ),
     (
         "    for i in range( 4 ):\n      for j in range( i ): s.x[i] //= s.y[j]\n      if i: pass\n",
-        " 3 for [ 4 for 5 if ]",
+        " 3 [ 4 5 ]",
     ),
     (
         "    @update\n    def up(): s.x @= 1\n    @update_ff\n    def ff():\n      s.y <<= 1\n    @update_once\n    def once(): s.f()\n",
-        " 3 mark 4 def 5 mark 6 def [ 7 assign ] 8 mark 9 def",
+        " 3 4 5 6 [ 7 ] 8 9",
     ),
     (
         "    if 1:\n      @update\n      def up(): s.x @= 1\n",
-        " 3 if [ 4 mark 5 def ]",
+        " 3 [ 4 5 ]",
     ),
     (
         "    @update\n    def construct(): pass\n    @update\n    def construct(): pass\n",
-        " 3 mark 4 def 5 mark 6 def",
+        " 3 4 5 6",
     ),
     ("    s.x @= 1\n", "Layout(3)"),
     ("    s.x <<= 1\n", "Layout(3)"),
@@ -412,7 +358,7 @@ const IN_CONSTRUCT: &[(&str, &str)] = &[
 fn construct_holds_blocks_and_branches(rt: HostRuntime) -> Result<(), Fail> {
     let surroundings = Surroundings {
         lines: "class A( Component ):\n  def construct( s ):\n",
-        before: " 1 class [ 2 def [",
+        before: " 1 [ 2 [",
         behind: " ] ]",
     };
     check_lines(&rt, rt.alloc(), &surroundings, IN_CONSTRUCT)
@@ -421,11 +367,11 @@ fn construct_holds_blocks_and_branches(rt: HostRuntime) -> Result<(), Fail> {
 const IN_BLOCK: &[(&str, &str)] = &[
     (
         "      'doc'\n      pass\n      t = 1\n      s.x[0] = 1\n      s.x @= t\n      s.y <<= t\n      s.f( t )\n",
-        " 5 doc 6 pass 7 assign 8 assign 9 assign 10 assign 11 do",
+        " 5 6 7 8 9 10 11",
     ),
     (
         "      for i in range( 2 ):\n        if a: s.x @= 1\n        elif b:\n          pass\n        else: t = 1\n",
-        " 5 for [ 6 if 7 elif [ 8 pass ] 9 else ]",
+        " 5 [ 6 7 [ 8 ] 9 ]",
     ),
     ("      return 1\n", "Layout(5)"),
     ("      if a: return 1\n", "Layout(5)"),
@@ -446,7 +392,7 @@ const IN_BLOCK: &[(&str, &str)] = &[
 fn blocks_hold_assignments(rt: HostRuntime) -> Result<(), Fail> {
     let surroundings = Surroundings {
         lines: "class A( Component ):\n  def construct( s ):\n    @update\n    def up():\n",
-        before: " 1 class [ 2 def [ 3 mark 4 def [",
+        before: " 1 [ 2 [ 3 4 [",
         behind: " ] ] ]",
     };
     check_lines(&rt, rt.alloc(), &surroundings, IN_BLOCK)
@@ -455,11 +401,11 @@ fn blocks_hold_assignments(rt: HostRuntime) -> Result<(), Fail> {
 const IN_METHOD: &[(&str, &str)] = &[
     (
         "    'doc'\n    pass\n    t = s.x\n    s.x = t\n    s.d.append( t )\n    return t\n",
-        " 3 doc 4 pass 5 assign 6 assign 7 do 8 return",
+        " 3 4 5 6 7 8",
     ),
     (
         "    for i in range( 2 ):\n      s.f( i )\n    if a: s.x = 1\n    return s.x\n",
-        " 3 for [ 4 do ] 5 if 6 return",
+        " 3 [ 4 ] 5 6",
     ),
     ("    return 1\n    pass\n", "Layout(3)"),
     ("    pass\n    return 1\n    return 2\n", "Layout(4)"),
@@ -480,34 +426,31 @@ const IN_METHOD: &[(&str, &str)] = &[
 fn a_method_returns_last(rt: HostRuntime) -> Result<(), Fail> {
     let surroundings = Surroundings {
         lines: "class A( Component ):\n  def m( s ):\n",
-        before: " 1 class [ 2 def [",
+        before: " 1 [ 2 [",
         behind: " ] ]",
     };
     check_lines(&rt, rt.alloc(), &surroundings, IN_METHOD)
 }
 
 const READ_OVER: &[(&str, &str)] = &[
-    (
-        "  def line_trace( s ): return 1\n     pass\n  pass\n",
-        " 4 pass",
-    ),
+    ("  def line_trace( s ): return 1\n     pass\n  pass\n", " 4"),
     (
         "  pass\n  def __str__( s ):\n    = = =\n      @ @\n    ( )\n  pass\n",
-        " 2 pass 7 pass",
+        " 2 7",
     ),
     (
         "  def line_trace\n  pass\n  def line_trace( = =\n     a )\n",
-        " 3 pass",
+        " 3",
     ),
     (
         "  def construct( s ):\n    pass\n  def line_trace( s ):\n    class A( Component ):\n      def line_trace( s ): pass\n      = =\n    pass\n  def m( s ): pass\n",
-        " 2 def [ 3 pass ] 9 def",
+        " 2 [ 3 ] 9",
     ),
     ("  def line_trace( s ):\n    pass\n", "Layout(1)"),
     ("  def line_trace( s ): return 1\n      pass\n", "Layout(1)"),
     (
         "  @non_blocking( lambda s: 1 )\n  def line_trace( s ):\n    return 1\n  def m( s ): pass\n",
-        " 2 guard 5 def",
+        " 2 5",
     ),
     (
         "  @non_blocking( lambda s: 1 )\n  def line_trace( s ):\n    return 1\n",
@@ -530,7 +473,7 @@ const READ_OVER: &[(&str, &str)] = &[
 fn functions_that_print_are_read_over(rt: HostRuntime) -> Result<(), Fail> {
     let surroundings = Surroundings {
         lines: "class A( Component ):\n",
-        before: " 1 class [",
+        before: " 1 [",
         behind: " ]",
     };
     check_lines(&rt, rt.alloc(), &surroundings, READ_OVER)
@@ -539,7 +482,7 @@ fn functions_that_print_are_read_over(rt: HostRuntime) -> Result<(), Fail> {
 const FIRST_FAULTS: &[(&str, &str)] = &[
     (
         "x = ---------------------------------------------------------------1\n",
-        " 1 assign",
+        " 1",
     ),
     (
         "x = ----------------------------------------------------------------1\n",
@@ -659,7 +602,7 @@ fn lines_stand_at_the_column_of_their_body(rt: HostRuntime) -> Result<(), Fail> 
         &rt,
         alloc,
         &[(0, class), (4, "pass"), (4, "pass")],
-        " 0 class [ 1 pass 2 pass ]",
+        " 0 [ 1 2 ]",
     )?;
     check_columns(
         &rt,
@@ -667,11 +610,6 @@ fn lines_stand_at_the_column_of_their_body(rt: HostRuntime) -> Result<(), Fail> 
         &[(0, class), (4, "pass"), (2, "pass")],
         "Layout(2)",
     )?;
-    check_columns(
-        &rt,
-        alloc,
-        &[(0, class), (4294967295, "pass")],
-        " 0 class [ 1 pass ]",
-    )?;
+    check_columns(&rt, alloc, &[(0, class), (4294967295, "pass")], " 0 [ 1 ]")?;
     check_columns(&rt, alloc, &[(4, "x = 1"), (0, "y = 1")], "Layout(0)")
 }

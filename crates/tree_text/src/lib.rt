@@ -5,7 +5,7 @@
 //! written as the numbers of their lines, with the body of each in brackets behind its number.
 //!
 //! `write_statement` and `write_nodes` write behind what a text has already, and promise nothing of it. Only the tests of
-//! `pm_grammar` and the program `parse_lines`, which prints such texts, call them.
+//! `pm_grammar` and `pm_parse` and the program `parse_lines`, which prints such texts, call them.
 #![tactic(auto)]
 
 mod expression;
