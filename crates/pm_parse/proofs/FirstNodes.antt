@@ -5,7 +5,7 @@ use Rattle.pm_syn.specs.declared.statement.Node.{Node}
 use Rattle.pm_syn.specs.declared.statement.Node.TheViews.{out-Node}
 use Rattle.pm_syn.specs.declared.statement.Stmt.{Stmt}
 use Rattle.pm_parse.specs.Forms.{behind_of, form_of}
-use Rattle.pm_parse.specs.LaidOutTrees.{AreLaidOut, FitsIn, is_none, may_follow, may_precede, node_form}
+use Rattle.pm_parse.specs.LaidOutTrees.{AreLaidOut, FitsIn, is_none, may_follow_forms, may_precede_nodes, node_form}
 use Rattle.pm_parse.specs.Layout.{has_body}
 use Rattle.pm_parse.specs.Places.{body_of, may_stand, may_stand_behind}
 use Rattle.pm_parse.specs.declared.entry.Entry.{Entry}
@@ -18,8 +18,8 @@ pub record IsLaidOut (p : Place) (before : List Form) (statement : Stmt) (body n
   pub placed : may_stand p (form_of statement) ≡ true
   pub filled : may_stand_behind (body_of p (form_of statement)) (behind_of statement) ≡ true
   pub headed : has_body (behind_of statement) ≡ not (is_none body)
-  pub follows : may_follow (form_of statement) before ≡ true
-  pub precedes : may_precede (form_of statement) nodes ≡ true
+  pub follows : may_follow_forms (form_of statement) before ≡ true
+  pub precedes : may_precede_nodes (form_of statement) nodes ≡ true
   pub inner : AreLaidOut (body_of p (form_of statement)) [] body
   pub outer : AreLaidOut p (form_of statement ∷ before) nodes
 

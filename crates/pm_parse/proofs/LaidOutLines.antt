@@ -11,7 +11,7 @@ use Rattle.pm_grammar.specs.Depths.{depth_of_statement}
 use Rattle.pm_parse.specs.Faults.{fault_behind, first_fault}
 use Rattle.pm_parse.specs.Forms.{line_of}
 use Rattle.pm_parse.specs.LaidOutFiles.{AreAligned, IsShallow}
-use Rattle.pm_parse.specs.LaidOutTrees.{AreLaidOut, ends_in_decorator, is_none}
+use Rattle.pm_parse.specs.LaidOutTrees.{AreLaidOut, forms_end_in_decorator, is_none}
 use Rattle.pm_parse.specs.Layout.{begins_body, decorates, fits, has_body, is_any, is_decorated}
 use Rattle.pm_parse.specs.Places.{place_under}
 use Rattle.pm_parse.specs.declared.entry.Entry.{Entry}
@@ -32,7 +32,7 @@ use Rattle.pm_parse.proofs.ProperNames.{all_behind, all_front}
 -- a node's line at this column is aligned behind these lines, and the decorator that it may stand behind is directly before it
 record IsOpen (column : ℕ) (before : List LineForm) (nodes : List Node) : Type 0 where
   aligned : is_none nodes ≡ false → (begins_body column before || is_any (lines_beside column before)) ≡ true
-  decorated : (line : LineForm) → line.column ≡ column → ends_in_decorator (forms_beside column before) line.form ≡ true → is_decorated before line ≡ true
+  decorated : (line : LineForm) → line.column ≡ column → forms_end_in_decorator (forms_beside column before) line.form ≡ true → is_decorated before line ≡ true
 
 -- so it is where a file begins
 file_open : (nodes : List Node) → IsOpen 0 [] nodes
@@ -44,7 +44,7 @@ body_open inner line before body below headed =
     let inside : nat_lt line.column inner ≡ true = grind (arith, nat_tests) in
     record {
       aligned = λ any. or_left (begins_body inner (line ∷ before)) _ (rw (inside, headed, any) refl);
-      decorated = λ other there is. let none : false ≡ true = subst (λ (beside : List LineForm). ends_in_decorator (forms_of beside) other.form ≡ true) (beside_inside inner line before below) is in cc;
+      decorated = λ other there is. let none : false ≡ true = subst (λ (beside : List LineForm). forms_end_in_decorator (forms_of beside) other.form ≡ true) (beside_inside inner line before below) is in cc;
     }
 
 -- and behind a line and those under it
@@ -55,7 +55,7 @@ next_open line before under nodes deeper bare =
     record {
       aligned = λ any. or_right (begins_body line.column (passed_before under (line ∷ before))) _ (rw beside refl);
       decorated = λ other there is.
-          let decorated : decorates line.form other.form ≡ true = subst (λ (lines : List LineForm). ends_in_decorator (forms_of lines) other.form ≡ true) beside is in
+          let decorated : decorates line.form other.form ≡ true = subst (λ (lines : List LineForm). forms_end_in_decorator (forms_of lines) other.form ≡ true) beside is in
           let level : (line.column == other.column) ≡ true = grind (arith, nat_tests) in
           let directly : is_decorated (line ∷ before) other ≡ true = rw level decorated in
           subst (λ (es : List Entry). is_decorated (passed_before es (line ∷ before)) other ≡ true) (sym (bare (none_under_decorator line.form other.form decorated))) directly;

@@ -10,10 +10,8 @@ use Rattle.pm_syn.specs.declared.statement.Node.TheViews.{out-Node, out-roll-Nod
 use Rattle.pm_syn.specs.declared.statement.Stmt.{Stmt}
 use Rattle.pm_parse.specs.Faults.{fault_behind}
 use Rattle.pm_parse.specs.Forms.{form_of}
-use Rattle.pm_parse.specs.LaidOutTrees.{decorates_first, ends_in_branch, ends_in_decorator, is_none}
-use Rattle.pm_parse.specs.LaidOutTrees as tree
-use Rattle.pm_parse.specs.Layout.{beside, decorates, decorates_line, decorates_next, is_construct, is_decorated, is_last, may_stand_bare}
-use Rattle.pm_parse.specs.Layout as layout
+use Rattle.pm_parse.specs.LaidOutTrees.{decorates_first, forms_end_in_branch, forms_end_in_decorator, is_none, may_follow_forms, may_precede_nodes}
+use Rattle.pm_parse.specs.Layout.{beside, decorates, decorates_line, decorates_next, ends_in_branch, is_construct, is_decorated, is_last, may_follow, may_precede, may_stand_bare}
 use Rattle.pm_parse.specs.Trees.{AreTrees, Returns}
 use Rattle.pm_parse.specs.declared.entry.Entry.{Entry}
 use Rattle.pm_parse.specs.declared.form.Form.{Form}
@@ -53,9 +51,9 @@ node_of-body entry statement body = rw (out-roll-Node (record { line = entry.num
 -- ---- behind the nodes before
 
 -- the nearest line is a branch where the nearest form is that of one
-pub ends_in_branch-forms : (lines : List LineForm) → ends_in_branch (forms_of lines) ≡ layout.ends_in_branch lines
-ends_in_branch-forms [] = refl
-ends_in_branch-forms (line ∷ lines) = refl
+pub forms_end_in_branch-forms_of : (lines : List LineForm) → forms_end_in_branch (forms_of lines) ≡ ends_in_branch lines
+forms_end_in_branch-forms_of [] = refl
+forms_end_in_branch-forms_of (line ∷ lines) = refl
 
 -- one of the lines is a `construct` where one of the forms is that of one
 pub list_any-forms : (lines : List LineForm) → list_any is_construct (forms_of lines) ≡ list_any (λ (l : LineForm). is_construct l.form) lines
@@ -63,7 +61,7 @@ list_any-forms [] = refl
 list_any-forms (line ∷ lines) = ap (λ (b : Bool). is_construct line.form || b) (list_any-forms lines)
 
 -- a decorated line stands behind its decorator
-decorated_forms : (before : List LineForm) (line : LineForm) → is_decorated before line ≡ true → ends_in_decorator (forms_beside line.column before) line.form ≡ true
+decorated_forms : (before : List LineForm) (line : LineForm) → is_decorated before line ≡ true → forms_end_in_decorator (forms_beside line.column before) line.form ≡ true
 decorated_forms [] line is = cc
 decorated_forms (nearest ∷ before) line is =
     let parts = and_parts (nearest.column == line.column) (decorates nearest.form line.form) is in
@@ -73,19 +71,19 @@ decorated_forms (nearest ∷ before) line is =
 
 -- a line that may stand bare, or is decorated
 bare_or_decorated : (before : List LineForm) (line : LineForm) (f : Form) → f ≡ line.form → (may_stand_bare f || is_decorated before line) ≡ true
-    → (may_stand_bare f || ends_in_decorator (forms_beside line.column before) f) ≡ true
+    → (may_stand_bare f || forms_end_in_decorator (forms_beside line.column before) f) ≡ true
 bare_or_decorated before line f same is =
     elim (or_cases (may_stand_bare f) (is_decorated before line) is) [
       | inl bare ↦ or_left (may_stand_bare f) _ bare
       | inr decorated ↦
-          or_right (may_stand_bare f) _ (subst (λ (g : Form). ends_in_decorator (forms_beside line.column before) g ≡ true) (sym same) (decorated_forms before line decorated))
+          or_right (may_stand_bare f) _ (subst (λ (g : Form). forms_end_in_decorator (forms_beside line.column before) g ≡ true) (sym same) (decorated_forms before line decorated))
     ]
 
 -- a line that may stand behind those beside it may stand behind their forms
-pub follows_forms : (before : List LineForm) (line : LineForm) (f : Form) → f ≡ line.form → layout.may_follow f (beside before line) ≡ true
-    → (may_stand_bare f || is_decorated before line) ≡ true → tree.may_follow f (forms_beside line.column before) ≡ true
-follows_forms before line form.Elif same follows decorated = ends_in_branch-forms (beside before line) ∙ follows
-follows_forms before line form.Else same follows decorated = ends_in_branch-forms (beside before line) ∙ follows
+pub follows_forms : (before : List LineForm) (line : LineForm) (f : Form) → f ≡ line.form → may_follow f (beside before line) ≡ true
+    → (may_stand_bare f || is_decorated before line) ≡ true → may_follow_forms f (forms_beside line.column before) ≡ true
+follows_forms before line form.Elif same follows decorated = forms_end_in_branch-forms_of (beside before line) ∙ follows
+follows_forms before line form.Else same follows decorated = forms_end_in_branch-forms_of (beside before line) ∙ follows
 follows_forms before line form.Construct same follows decorated = ap not (list_any-forms (beside before line)) ∙ follows
 follows_forms before line other same follows decorated = bare_or_decorated before line other same decorated
 
@@ -128,7 +126,7 @@ none_decorated (node ∷ nodes) is = is
 -- a line that may stand before those behind it may stand before their nodes
 pub precedes_nodes : (f : Form) (line : LineForm) (under behind rest : List Entry) (now : List LineForm) (nodes : List Node) → f ≡ line.form → (has_none_under f ≡ true → under ≡ [])
     → AreTrees behind nodes → Returns line.column behind → All (IsWithin line.column) behind → IsLeft line.column rest → fault_behind now (behind ++ rest) ≡ None
-    → layout.may_precede line f (under ++ (behind ++ rest)) ≡ true → tree.may_precede f nodes ≡ true
+    → may_precede line f (under ++ (behind ++ rest)) ≡ true → may_precede_nodes f nodes ≡ true
 precedes_nodes form.BitstructMark line under behind rest now nodes same empty trees returns within left none is =
     decorates_nodes form.BitstructMark line behind rest now nodes same trees left none (subst (λ (es : List Entry). decorates_next line (es ++ (behind ++ rest)) ≡ true) (empty refl) is)
 precedes_nodes form.BlockMark line under behind rest now nodes same empty trees returns within left none is =

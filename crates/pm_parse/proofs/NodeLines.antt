@@ -6,38 +6,36 @@ use Rattle.std.proofs.lemmas.Bool.Decides.{nat_tests}
 use Rattle.pm_syn.specs.declared.statement.Node.{Node}
 use Rattle.pm_parse.specs.Forms.{form_of}
 use Rattle.pm_parse.specs.LaidOutFiles.{AreAligned}
-use Rattle.pm_parse.specs.LaidOutTrees.{decorates_first, ends_in_decorator, is_none}
-use Rattle.pm_parse.specs.LaidOutTrees as tree
-use Rattle.pm_parse.specs.Layout.{decorates, decorates_line, decorates_next, is_decorated, is_last, may_stand_bare}
-use Rattle.pm_parse.specs.Layout as layout
+use Rattle.pm_parse.specs.LaidOutTrees.{decorates_first, forms_end_in_decorator, is_none, may_follow_forms, may_precede_nodes}
+use Rattle.pm_parse.specs.Layout.{decorates, decorates_line, decorates_next, is_decorated, is_last, may_follow, may_precede, may_stand_bare}
 use Rattle.pm_parse.specs.declared.entry.Entry.{Entry}
 use Rattle.pm_parse.specs.declared.form.Form.{Form}
 use Rattle.pm_parse.specs.declared.form.Form.TheVariants as form
 use Rattle.pm_parse.specs.declared.form.LineForm.{LineForm}
 use Rattle.pm_parse.proofs.BareLines.{has_none_under}
-use Rattle.pm_parse.proofs.NodeForms.{IsLeft, ends_in_branch-forms, forms_of, list_any-forms, node_of-stmt}
+use Rattle.pm_parse.proofs.NodeForms.{IsLeft, forms_end_in_branch-forms_of, forms_of, list_any-forms, node_of-stmt}
 
 -- ---- behind the lines before
 
 -- a line whose node may stand behind those beside it may stand behind their lines
-pub follows_lines : (f : Form) (lines : List LineForm) → tree.may_follow f (forms_of lines) ≡ true → layout.may_follow f lines ≡ true
-follows_lines form.Elif lines follows = sym (ends_in_branch-forms lines) ∙ follows
-follows_lines form.Else lines follows = sym (ends_in_branch-forms lines) ∙ follows
+pub follows_lines : (f : Form) (lines : List LineForm) → may_follow_forms f (forms_of lines) ≡ true → may_follow f lines ≡ true
+follows_lines form.Elif lines follows = sym (forms_end_in_branch-forms_of lines) ∙ follows
+follows_lines form.Else lines follows = sym (forms_end_in_branch-forms_of lines) ∙ follows
 follows_lines form.Construct lines follows = ap not (sym (list_any-forms lines)) ∙ follows
 follows_lines other lines follows = refl
 
 -- a line that may stand bare, or whose decorator is directly before it
-bare_or_decorated : (f : Form) (line : LineForm) (before : List LineForm) (forms : List Form) → (ends_in_decorator forms f ≡ true → is_decorated before line ≡ true)
-    → (may_stand_bare f || ends_in_decorator forms f) ≡ true → (may_stand_bare f || is_decorated before line) ≡ true
+bare_or_decorated : (f : Form) (line : LineForm) (before : List LineForm) (forms : List Form) → (forms_end_in_decorator forms f ≡ true → is_decorated before line ≡ true)
+    → (may_stand_bare f || forms_end_in_decorator forms f) ≡ true → (may_stand_bare f || is_decorated before line) ≡ true
 bare_or_decorated f line before forms nearest is =
-    elim (or_cases (may_stand_bare f) (ends_in_decorator forms f) is) [
+    elim (or_cases (may_stand_bare f) (forms_end_in_decorator forms f) is) [
       | inl bare ↦ or_left (may_stand_bare f) _ bare
       | inr decorated ↦ or_right (may_stand_bare f) _ (nearest decorated)
     ]
 
 -- a line whose node may stand behind those beside it is decorated, where it has to be
-pub decorated_lines : (f : Form) (line : LineForm) (before : List LineForm) (forms : List Form) → (ends_in_decorator forms f ≡ true → is_decorated before line ≡ true)
-    → tree.may_follow f forms ≡ true → (may_stand_bare f || is_decorated before line) ≡ true
+pub decorated_lines : (f : Form) (line : LineForm) (before : List LineForm) (forms : List Form) → (forms_end_in_decorator forms f ≡ true → is_decorated before line ≡ true)
+    → may_follow_forms f forms ≡ true → (may_stand_bare f || is_decorated before line) ≡ true
 decorated_lines form.Elif line before forms nearest follows = refl
 decorated_lines form.Else line before forms nearest follows = refl
 decorated_lines form.Construct line before forms nearest follows = refl
@@ -78,7 +76,7 @@ last_lines _ _ _ (AreAligned.line entry statement inner under behind body nodes 
 
 -- a line whose node may stand before those behind it may stand before their lines
 pub precedes_lines : (f : Form) (line : LineForm) (under behind rest : List Entry) (nodes : List Node) → f ≡ line.form → (has_none_under f ≡ true → under ≡ [])
-    → AreAligned line.column behind nodes → IsLeft line.column rest → tree.may_precede f nodes ≡ true → layout.may_precede line f (under ++ (behind ++ rest)) ≡ true
+    → AreAligned line.column behind nodes → IsLeft line.column rest → may_precede_nodes f nodes ≡ true → may_precede line f (under ++ (behind ++ rest)) ≡ true
 precedes_lines form.BitstructMark line under behind rest nodes same empty aligned left is =
     rw (empty refl) (decorates_lines line.column behind nodes aligned form.BitstructMark line rest same refl is)
 precedes_lines form.BlockMark line under behind rest nodes same empty aligned left is =

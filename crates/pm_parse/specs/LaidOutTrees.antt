@@ -15,21 +15,21 @@ abbrev pub node_form : Node → Form
 node_form node = form_of (out-Node node).stmt
 
 -- the nearest of these forms is that of a branch
-abbrev pub ends_in_branch : List Form → Bool
-ends_in_branch [] = false
-ends_in_branch (nearest ∷ forms) = is_branch nearest
+abbrev pub forms_end_in_branch : List Form → Bool
+forms_end_in_branch [] = false
+forms_end_in_branch (nearest ∷ forms) = is_branch nearest
 
 -- the nearest of these forms is that of a decorator of this form
-abbrev pub ends_in_decorator : List Form → Form → Bool
-ends_in_decorator [] decorated = false
-ends_in_decorator (nearest ∷ forms) decorated = decorates nearest decorated
+abbrev pub forms_end_in_decorator : List Form → Form → Bool
+forms_end_in_decorator [] decorated = false
+forms_end_in_decorator (nearest ∷ forms) decorated = decorates nearest decorated
 
 -- a node of this form may stand in a body behind nodes of these, which are listed from the nearest: `elif` and `else` directly behind a branch, `construct` where there is none yet, and what has to be decorated directly behind its decorator
-abbrev pub may_follow : Form → List Form → Bool
-may_follow form.Elif before = ends_in_branch before
-may_follow form.Else before = ends_in_branch before
-may_follow form.Construct before = not (list_any is_construct before)
-may_follow other before = may_stand_bare other || ends_in_decorator before other
+abbrev pub may_follow_forms : Form → List Form → Bool
+may_follow_forms form.Elif before = forms_end_in_branch before
+may_follow_forms form.Else before = forms_end_in_branch before
+may_follow_forms form.Construct before = not (list_any is_construct before)
+may_follow_forms other before = may_stand_bare other || forms_end_in_decorator before other
 
 -- the first of these nodes is what the decorator decorates
 abbrev pub decorates_first : Form → List Node → Bool
@@ -42,13 +42,13 @@ is_none [] = true
 is_none (node ∷ nodes) = false
 
 -- a node of this form may stand in a body before these: a decorator directly before what it decorates, and `return` last
-abbrev pub may_precede : Form → List Node → Bool
-may_precede form.BitstructMark next = decorates_first form.BitstructMark next
-may_precede form.BlockMark next = decorates_first form.BlockMark next
-may_precede form.Guard next = decorates_first form.Guard next
-may_precede form.OtherMark next = false
-may_precede form.Return next = is_none next
-may_precede other next = true
+abbrev pub may_precede_nodes : Form → List Node → Bool
+may_precede_nodes form.BitstructMark next = decorates_first form.BitstructMark next
+may_precede_nodes form.BlockMark next = decorates_first form.BlockMark next
+may_precede_nodes form.Guard next = decorates_first form.Guard next
+may_precede_nodes form.OtherMark next = false
+may_precede_nodes form.Return next = is_none next
+may_precede_nodes other next = true
 
 -- a node fits in a place, behind nodes of these forms, which are listed from the nearest, and before these nodes
 pub record FitsIn (p : Place) (before : List Form) (node : Node) (nodes : List Node) : Type 0 where
@@ -59,9 +59,9 @@ pub record FitsIn (p : Place) (before : List Form) (node : Node) (nodes : List N
   -- it has nodes in its body exactly where it is a header with nothing behind its colon
   pub headed : has_body (behind_of (out-Node node).stmt) ≡ not (is_none (out-Node node).body)
   -- it may stand behind the nodes before it
-  pub follows : IsTrue (may_follow (node_form node) before)
+  pub follows : IsTrue (may_follow_forms (node_form node) before)
   -- and before those behind it
-  pub precedes : IsTrue (may_precede (node_form node) nodes)
+  pub precedes : IsTrue (may_precede_nodes (node_form node) nodes)
 
 -- the nodes may stand in the place, behind nodes of these forms, and so may the nodes of their bodies in theirs
 pub data AreLaidOut : Place → List Form → List Node → Type 0 where
