@@ -20,3 +20,8 @@ pub mod Loops
 pub mod Arrangements
 pub mod Existence
 pub mod Ranks
+pub mod WrittenParts
+pub mod WrittenSignals
+pub mod WrittenValues
+pub mod WrittenBlocks
+pub mod WrittenComponents

@@ -54,7 +54,7 @@ none_passes test places place none is =
     let long : length places ≤ position_or_len test places = grind (arith, nat_tests) in none_before test places place long is
 
 -- a test of what may be there
-some_of : {X : Type 0} (test : X → Bool) (found : Option X) → option_map_or test found false ≡ true → (x : X) × (found ≡ Some x) × (test x ≡ true)
+pub some_of : {X : Type 0} (test : X → Bool) (found : Option X) → option_map_or test found false ≡ true → (x : X) × (found ≡ Some x) × (test x ≡ true)
 some_of test None is = absurd (cc)
 some_of test (Some x) is = (x, refl, is)
 

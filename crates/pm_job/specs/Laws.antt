@@ -1,12 +1,15 @@
--- What holds of the equations of a cycle: blocks in order solve them, nothing else does, and their order says no more.
-use Rattle.std.specs.Prelude.{◌≡◌, true, List, length, All, Contains}
+-- What holds of the equations of a cycle and of the narrow form: blocks in order solve the equations, nothing else does, and their order
+-- says no more; a component is read where its lines are written.
+use Rattle.std.specs.Prelude.{◌≡◌, ◌≤◌, ◌^◌, ℕ, true, IsTrue, List, length, All, Contains, Some}
 use Rattle.pm_bits.specs.Word.{Word}
 use Rattle.pm_job.specs.declared.component.Assignment.{Assignment}
-use Rattle.pm_job.specs.Form.{targets_differ}
+use Rattle.pm_job.specs.declared.component.Component.{Component}
+use Rattle.pm_job.specs.Form.{component_of, form_lines, is_sound, targets_differ}
 use Rattle.pm_job.specs.Precedence.{HasLoop}
 use Rattle.pm_job.specs.Progress.{after_blocks}
 use Rattle.pm_job.specs.Reads.{is_ordered, AssignWithin}
 use Rattle.pm_job.specs.Settled.{IsSettled}
+use Rattle.pm_job.specs.WrittenForm.{AreComponentLines}
 
 -- the values after blocks that ran in order solve the equations
 abbrev pub OrderedSettles : Type 0
@@ -26,3 +29,13 @@ HaveSameBlocks blocks blocks' = All (Contains blocks') blocks × All (Contains b
 abbrev pub SettledPermuted : Type 0
 SettledPermuted = (blocks blocks' : List Assignment) (start settled : List Word) → HaveSameBlocks blocks blocks'
     → IsSettled blocks start settled → IsSettled blocks' start settled
+
+-- a text of 2 to the 20 bytes at the most has the lines of a sound component, empty ones left out
+abbrev pub Writes : List ℕ → List ℕ → Component → Type 0
+Writes class text component = (length text ≤ 2 ^ 20) × AreComponentLines class component (form_lines text) × IsTrue (is_sound component)
+
+-- a component is read from the texts that write it, and from no others
+abbrev pub ReadAsWritten : Type 0
+ReadAsWritten = (class text : List ℕ) (component : Component)
+    → (component_of class text ≡ Some component → Writes class text component)
+    × (Writes class text component → component_of class text ≡ Some component)

@@ -1,4 +1,5 @@
 pub mod Form
+pub mod WrittenForm
 pub mod Sound
 pub mod Settled
 pub mod Values
