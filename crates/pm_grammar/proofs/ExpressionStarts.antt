@@ -8,7 +8,8 @@ use Rattle.pm_syn.specs.declared.token.TokenKind.TheVariants as kind
 use Rattle.pm_grammar.specs.Expressions.{Spells, as_tight, conditional, grouped_left, negation, comparison, signed, power, attribute, call, index, slice, named, number, true_word, false_word, group, items, each}
 use Rattle.pm_grammar.specs.Fronts.{begins_with}
 use Rattle.pm_grammar.specs.Levels.{sign_of}
-use Rattle.pm_grammar.specs.Marks.{is_keyword, is_mark, is_name, is_word}
+use Rattle.pm_syn.specs.Names.{is_keyword}
+use Rattle.pm_grammar.specs.Marks.{is_mark, is_name, is_word}
 use Rattle.pm_grammar.specs.declared.level.Level.{Level}
 use Rattle.pm_grammar.proofs.TokenTexts.{by_word, like, of_mark, of_word}
 

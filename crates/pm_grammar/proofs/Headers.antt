@@ -13,7 +13,8 @@ use Rattle.pm_syn.specs.declared.token.Token.{Token}
 use Rattle.pm_grammar.specs.Expressions.{SpellsRange}
 use Rattle.pm_grammar.specs.Fronts.{IsBehind, IsNotThere, begins_with}
 use Rattle.pm_grammar.specs.Headers.{IsCondition, IsGuard, OpensGuard, SpellsBase, SpellsBranch, SpellsClass, SpellsDecorator, SpellsFor, based, elif_branch, else_branch, for_range, guard, if_branch, is_lone, mark, opened, simple_branch, with_base, without_base}
-use Rattle.pm_grammar.specs.Marks.{is_keyword, is_mark, is_name, is_word}
+use Rattle.pm_syn.specs.Names.{is_keyword}
+use Rattle.pm_grammar.specs.Marks.{is_mark, is_name, is_word}
 use Rattle.pm_grammar.specs.Reading.{Begins, IsOnly, IsOnlyBefore, IsRead}
 use Rattle.pm_grammar.specs.Statements.{IsExpression, SpellsEnd, SpellsOptional, SpellsResult, SpellsSimple, alone, with_statement, absent, present, unsaid, nothing, something}
 use Rattle.pm_grammar.specs.declared.level.Level.TheVariants as level

@@ -7,7 +7,8 @@ use Rattle.pm_syn.specs.declared.expression.BinaryOp.TheVariants as binary
 use Rattle.pm_syn.specs.declared.token.Token.{Token}
 use Rattle.pm_syn.specs.declared.token.TokenKind.TheVariants as kind
 use Rattle.pm_grammar.specs.Levels.{operator_at}
-use Rattle.pm_grammar.specs.Marks.{is_keyword, is_mark, is_name, is_name_kind, is_word}
+use Rattle.pm_syn.specs.Names.{is_keyword}
+use Rattle.pm_grammar.specs.Marks.{is_mark, is_name, is_name_kind, is_word}
 use Rattle.pm_grammar.specs.Reading.{Ends, continues}
 use Rattle.pm_grammar.specs.declared.level.Level.{Level}
 use Rattle.pm_grammar.specs.declared.level.Level.TheVariants as level

@@ -8,7 +8,8 @@ use Rattle.pm_syn.specs.declared.token.Token.{Token}
 use Rattle.pm_syn.specs.declared.token.TokenKind.TheVariants as kind
 use Rattle.pm_grammar.specs.ExpressionStatements.{SpellsBehind, SpellsWithExpression}
 use Rattle.pm_grammar.specs.Fronts.{IsNotThere, begins_with}
-use Rattle.pm_grammar.specs.Marks.{is_keyword, is_word}
+use Rattle.pm_syn.specs.Names.{is_keyword}
+use Rattle.pm_grammar.specs.Marks.{is_word}
 use Rattle.pm_grammar.specs.Reading.{Ends, IsOnly}
 use Rattle.pm_grammar.specs.Statements.{IsExpression, SpellsSimple}
 use Rattle.pm_grammar.specs.Statements as simple

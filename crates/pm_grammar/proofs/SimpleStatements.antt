@@ -16,7 +16,8 @@ use Rattle.pm_syn.specs.declared.token.TokenKind.TheVariants as kind
 use Rattle.pm_grammar.specs.ExpressionStatements.{EndsAssertion, SpellsBehind, SpellsWithExpression}
 use Rattle.pm_grammar.specs.Expressions.{Spells}
 use Rattle.pm_grammar.specs.Fronts.{IsBehind, IsNotThere, begins_with}
-use Rattle.pm_grammar.specs.Marks.{is_keyword, is_mark, is_word}
+use Rattle.pm_syn.specs.Names.{is_keyword}
+use Rattle.pm_grammar.specs.Marks.{is_mark, is_word}
 use Rattle.pm_grammar.specs.Reading.{Begins, Ends, IsOnly, read_of}
 use Rattle.pm_grammar.specs.Statements.{AreStrings, IsExpression, SpellsSimple, assignment_of}
 use Rattle.pm_grammar.specs.declared.level.Level.TheVariants as level

@@ -8,7 +8,8 @@ use Rattle.pm_syn.specs.declared.token.TokenKind.{TokenKind}
 use Rattle.pm_syn.specs.declared.token.TokenKind.TheVariants as kind
 use Rattle.pm_grammar.specs.Expressions.{Spells}
 use Rattle.pm_grammar.specs.Fronts.{begins_with}
-use Rattle.pm_grammar.specs.Marks.{is_keyword, is_mark, is_word}
+use Rattle.pm_syn.specs.Names.{is_keyword}
+use Rattle.pm_grammar.specs.Marks.{is_mark, is_word}
 use Rattle.pm_grammar.specs.Statements.{AreStrings, SpellsSimple, passed, returned, asserted, asserted_saying, doc, assigned, joined, noted, noted_value, done}
 use Rattle.pm_grammar.specs.declared.level.Level.TheVariants as level
 use Rattle.pm_grammar.proofs.ExpressionStarts.{begins_more, opens, opens_expression}

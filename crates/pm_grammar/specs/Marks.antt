@@ -1,7 +1,7 @@
 -- Tokens as the grammar names them: marks, words, names.
-use Rattle.std.specs.Prelude.{◌&&◌, Bool, true, false, not, ℕ, List, [], ◌∷◌, codes}
-use Rattle.std.specs.List.{list_any}
+use Rattle.std.specs.Prelude.{◌&&◌, Bool, true, false, not, ℕ, List}
 use Rattle.std.specs.Str.{bytes_eq}
+use Rattle.pm_syn.specs.Names.{is_keyword}
 use Rattle.pm_syn.specs.declared.token.Token.{Token}
 use Rattle.pm_syn.specs.declared.token.TokenKind.{TokenKind}
 use Rattle.pm_syn.specs.declared.token.TokenKind.TheVariants as kind
@@ -27,17 +27,6 @@ is_mark bytes token = is_op token.kind && bytes_eq token.text bytes
 -- the word of these bytes, be it a name or not
 abbrev pub is_word : List ℕ → Token → Bool
 is_word bytes token = is_name_kind token.kind && bytes_eq token.text bytes
-
--- the words that are no names
-abbrev pub keywords : List (List ℕ)
-keywords =
-    codes "and" ∷ codes "as" ∷ codes "assert" ∷ codes "class" ∷ codes "def" ∷ codes "elif" ∷ codes "else" ∷ codes "for"
-    ∷ codes "from" ∷ codes "if" ∷ codes "import" ∷ codes "in" ∷ codes "is" ∷ codes "lambda" ∷ codes "None" ∷ codes "not"
-    ∷ codes "or" ∷ codes "pass" ∷ codes "return" ∷ codes "True" ∷ codes "False" ∷ codes "while" ∷ []
-
--- one of the words that are no names
-unfoldable pub is_keyword : List ℕ → Bool
-is_keyword word = list_any (bytes_eq word) keywords
 
 -- a name: a word that is no keyword
 abbrev pub is_name : Token → Bool

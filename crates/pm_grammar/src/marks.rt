@@ -1,19 +1,11 @@
 //! Tokens as the grammar names them: marks, words, names.
 ghost use Rattle.std.specs.Prelude.{◌≡◌, ◌↔◌, ◌∷◌, IsTrue, List, MatchOption};
-ghost use Rattle.std.specs.List.{list_any};
-ghost use Rattle.std.specs.Str.{bytes_eq};
 ghost use Rattle.pm_grammar.specs.Marks as spec;
 ghost use Rattle.pm_grammar.specs.Fronts.{IsBehind, IsNotThere};
 ghost use Rattle.pm_grammar.specs.Fronts as fronts;
 ghost use Rattle.pm_syn.specs.declared.token.Token.{Token as TheToken};
 
-use pm_syn::{Token, TokenKind};
-
-/// The words that are no names.
-const KEYWORDS: [&str; 22] = [
-    "and", "as", "assert", "class", "def", "elif", "else", "for", "from", "if", "import", "in",
-    "is", "lambda", "None", "not", "or", "pass", "return", "True", "False", "while",
-];
+use pm_syn::{Token, TokenKind, is_keyword};
 
 /// Whether the token is the operator or punctuation mark of these bytes.
 pub(crate) fn is_mark(bytes: &[u8], token: &Token) -> bool
@@ -34,26 +26,6 @@ pub(crate) fn is_name(token: &Token) -> bool
     ensures { result ≡ spec.is_name token.now }
 {
     token.kind == TokenKind::Name && !is_keyword(token.text.as_slice())
-}
-
-#[tactic(auto, unfolding(crate::specs::Marks::is_keyword))]
-fn is_keyword(word: &[u8]) -> bool
-    ensures { result ≡ spec.is_keyword word.now }
-{
-    let keywords: [&str; 22] = KEYWORDS;
-    is_among(keywords.as_slice(), word)
-}
-
-/// Whether the word is one of these.
-fn is_among(words: &[&str], word: &[u8]) -> bool
-    ensures { result ≡ list_any (λ known. bytes_eq word.now known.now) words.now }
-{
-    for known in words {
-        if word == known.as_bytes() {
-            return true;
-        }
-    }
-    false
 }
 
 /// What stands behind this mark, where the tokens begin with it.

@@ -11,7 +11,9 @@ use Rattle.std.proofs.lemmas.List.{length-append, take-append-drop, take_at, dro
 use Rattle.std.proofs.lemmas.Slice.Eq.{bytes_eq-Decides}
 use Rattle.std.proofs.lemmas.Str.Parse.{IsNumeralModel}
 use Rattle.pm_job.specs.Words.{blank, is_blank, behind, without_ending, is_decimal, number_below}
-use Rattle.pm_job.specs.Spelling.{cut, continues_name, is_name, is_new_name, numeral_below}
+use Rattle.pm_syn.specs.Bytes.{begins_name, continues_name}
+use Rattle.pm_syn.specs.Names.{is_proper_name, is_spelled_as_name}
+use Rattle.pm_job.specs.Spelling.{cut, is_name, is_new_name, numeral_below}
 use Rattle.pm_job.proofs.Headers.{behind_some}
 
 -- ---- steps
@@ -116,13 +118,18 @@ no_blanks test fails (byte ∷ word) all =
     (no_blank byte test fails parts.0, no_blanks test fails word parts.1)
 
 -- no blank stands in a name
+spelled_has_no_blank : (word : List ℕ) → is_spelled_as_name word ≡ true → HasNoBlank word
+spelled_has_no_blank [] is = tt
+spelled_has_no_blank (first ∷ others) is =
+    let parts = and_parts (begins_name first) (list_all continues_name others) is in
+    (no_blank first begins_name refl parts.0, no_blanks continues_name refl others parts.1)
+
 name_has_no_blank : (word : List ℕ) → is_name word ≡ true → HasNoBlank word
 unfolding is_name
 name_has_no_blank word is =
-    let short = and_parts _ _ is in
-    let letters = and_parts _ _ short.0 in
-    let all = and_parts _ (list_all continues_name word) letters.0 in
-    no_blanks continues_name refl word all.1
+    let proper = and_parts (is_proper_name word) _ is in
+    let spelled = and_parts (is_spelled_as_name word) _ proper.0 in
+    spelled_has_no_blank word spelled.0
 
 -- no blank stands in a new name
 pub new_name_has_no_blank : (word : List ℕ) → is_new_name word ≡ true → HasNoBlank word

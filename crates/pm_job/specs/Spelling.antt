@@ -1,14 +1,13 @@
 -- The spelling of the narrow form: names, numbers, and the parts of a line.
-use Rattle.std.specs.Prelude.{ℕ, ◌^◌, Bool, not, ◌&&◌, ◌||◌, ◌==◌, nat_lt, nat_le, if◌then◌else◌, List, [], ◌∷◌, length, map, slice_index, codes, Option, Some, None, option_map}
+use Rattle.std.specs.Prelude.{ℕ, ◌^◌, Bool, not, ◌&&◌, ◌==◌, nat_lt, nat_le, if◌then◌else◌, List, [], ◌∷◌, length, slice_index, codes, Option, Some, None, option_map}
 use Rattle.std.specs.Option.{option_and_then}
-use Rattle.std.specs.List.{list_all, list_any}
-use Rattle.std.specs.Char.{is_ascii_alphabetic, is_ascii_alphanumeric}
 use Rattle.std.specs.Str.{bytes_eq}
 use Rattle.pm_bits.specs.declared.operator.Op.{Op}
 use Rattle.pm_bits.specs.declared.operator.Op.TheVariants as op
 use Rattle.pm_bits.specs.Word.{Word}
 use Rattle.pm_design.specs.declared.signal.Role.{Role}
 use Rattle.pm_design.specs.declared.signal.Role.TheVariants as role
+use Rattle.pm_syn.specs.Names.{is_proper_name}
 use Rattle.pm_job.specs.Words.{is_blank, number_below}
 use Rattle.pm_job.specs.Sound.{is_width}
 
@@ -22,28 +21,9 @@ unfoldable pub cut : List ℕ → Option (List ℕ × List ℕ)
 cut [] = None
 cut (byte ∷ text) = if is_blank byte then Some ([], text) else option_map (λ parts. (byte ∷ parts.0, parts.1)) (cut text)
 
--- a letter or an underscore
-abbrev pub starts_name : ℕ → Bool
-starts_name byte = is_ascii_alphabetic byte || byte == 95
-
--- a letter, a digit or an underscore
-abbrev pub continues_name : ℕ → Bool
-continues_name byte = is_ascii_alphanumeric byte || byte == 95
-
--- the words of the language
-abbrev pub keywords : List (List ℕ)
-keywords = map codes (
-    "and" ∷ "as" ∷ "assert" ∷ "class" ∷ "def" ∷ "elif" ∷ "else" ∷ "for" ∷ "from" ∷ "if" ∷ "import" ∷ "in" ∷
-    "is" ∷ "lambda" ∷ "None" ∷ "not" ∷ "or" ∷ "pass" ∷ "return" ∷ "True" ∷ "False" ∷ "while" ∷ [])
-
--- a word of the language, which is no name
-unfoldable pub is_keyword : List ℕ → Bool
-is_keyword word = list_any (λ keyword. bytes_eq keyword word) keywords
-
--- a letter or an underscore, then letters, digits and underscores, 64 at most and no keyword
+-- a proper name of 64 bytes at most
 unfoldable pub is_name : List ℕ → Bool
-is_name word =
-    ((starts_name (slice_index word 0) && list_all continues_name word) && nat_le (length word) 64) && not (is_keyword word)
+is_name word = is_proper_name word && nat_le (length word) 64
 
 -- a name that a signal or a block may be given
 unfoldable pub is_new_name : List ℕ → Bool

@@ -1,19 +1,12 @@
 //! The spelling of the narrow form: names, numbers, and the parts of a line.
-ghost use Rattle.std.specs.Prelude.{◌≡◌, ◌<◌, IfSome, ◌^◌, option_map, slice_index};
-ghost use Rattle.std.specs.List.{list_all, list_any};
-ghost use Rattle.std.specs.Str.{bytes_eq};
+ghost use Rattle.std.specs.Prelude.{◌≡◌, ◌<◌, IfSome, ◌^◌, option_map};
 ghost use Rattle.pm_job.specs.Spelling as spec;
 
 use crate::words::number;
 use memchr::memchr;
 use pm_bits::{Bits, Op};
 use pm_design::Role;
-
-/// The words of the language, none of which is a name.
-pub const KEYWORDS: [&str; 22] = [
-    "and", "as", "assert", "class", "def", "elif", "else", "for", "from", "if", "import", "in",
-    "is", "lambda", "None", "not", "or", "pass", "return", "True", "False", "while",
-];
+use pm_syn::is_proper_name;
 
 /// The greatest length of a name.
 const MAX_NAME: usize = 64;
@@ -34,43 +27,7 @@ pub(crate) fn cut(text: &[u8]) -> Option<(&[u8], &[u8])>
 pub(crate) fn is_name(word: &[u8]) -> bool
     ensures { result ≡ spec.is_name word.now }
 {
-    starts_name(word) && continues_name(word) && word.len() <= MAX_NAME && !is_keyword(word)
-}
-
-fn starts_name(word: &[u8]) -> bool
-    ensures { result ≡ spec.starts_name (slice_index word.now 0) }
-{
-    !word.is_empty() && (word[0].is_ascii_alphabetic() || word[0] == b'_')
-}
-
-fn continues_name(word: &[u8]) -> bool
-    ensures { result ≡ list_all spec.continues_name word.now }
-{
-    for byte in word {
-        if !(byte.is_ascii_alphanumeric() || *byte == b'_') {
-            return false;
-        }
-    }
-    true
-}
-
-#[tactic(auto, unfolding(crate::specs::Spelling::is_keyword))]
-fn is_keyword(word: &[u8]) -> bool
-    ensures { result ≡ spec.is_keyword word.now }
-{
-    let keywords: [&str; 22] = KEYWORDS;
-    is_among(keywords.as_slice(), word)
-}
-
-fn is_among(words: &[&str], word: &[u8]) -> bool
-    ensures { result ≡ list_any (λ known. bytes_eq known.now word.now) words.now }
-{
-    for known in words {
-        if known.as_bytes() == word {
-            return true;
-        }
-    }
-    false
+    is_proper_name(word) && word.len() <= MAX_NAME
 }
 
 /// Whether a signal or a block may be given this name.

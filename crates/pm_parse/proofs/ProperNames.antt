@@ -1,9 +1,10 @@
 -- Names that are proper, part by part.
-use Rattle.std.proofs.Common.{◌≡◌, ℕ, Bool, true, false, IsTrue, List, [], ◌∷◌, ◌++◌, map, All, not, refl}
-use Rattle.std.proofs.lemmas.Bool.{and_parts, false≢true}
+use Rattle.std.proofs.Common.{◌≡◌, ℕ, IsTrue, List, [], ◌∷◌, ◌++◌, map, All, not}
+use Rattle.std.proofs.lemmas.Bool.{and_from, and_parts}
 use Rattle.std.proofs.lemmas.List.Elements.{All-append, All-cons, All-head, All-nil, All-tail}
 use Rattle.pm_syn.specs.declared.token.Token.{Token}
-use Rattle.pm_grammar.specs.Marks.{is_keyword, is_name, is_name_kind}
+use Rattle.pm_syn.specs.Names.{is_keyword, is_spelled_as_name}
+use Rattle.pm_grammar.specs.Marks.{is_name, is_name_kind}
 use Rattle.pm_grammar.proofs.TokenTexts.{name_kind_is}
 use Rattle.pm_parse.specs.FileNames.{IsProperName, IsSpelledAsKind, Names, all_names}
 
@@ -45,16 +46,11 @@ behind_spelled ts us all = all_behind IsSpelledAsKind ts us all
 pub after_spelled : (ts us : List Token) (t : Token) → AreSpelled (ts ++ t ∷ us) → AreSpelled us
 after_spelled ts us t all = rest_spelled t us (behind_spelled ts (t ∷ us) all)
 
--- a test that is turned is false
-turned : (b : Bool) → IsTrue (not b) → b ≡ false
-turned true is = absurd (false≢true is)
-turned false is = refl
-
 -- the text of a token that is a name
 pub name_proper : (t : Token) → IsTrue (is_name t) → IsSpelledAsKind t → IsProperName t.text
 name_proper t named spelled =
     let parts = and_parts (is_name_kind t.kind) (not (is_keyword t.text)) named in
-    (spelled (name_kind_is t.kind parts.0), turned (is_keyword t.text) parts.1)
+    and_from (is_spelled_as_name t.text) (not (is_keyword t.text)) (spelled (name_kind_is t.kind parts.0)) parts.1
 
 -- ---- names
 

@@ -1,6 +1,6 @@
 -- The names in a file's statements, and that each is spelled as a name and is no keyword.
-use Rattle.std.specs.Prelude.{◌≡◌, ℕ, false, All, List, [], ◌∷◌, ◌++◌, map, Option, Some, None, Ok}
-use Rattle.pm_syn.specs.Tokens.{IsName}
+use Rattle.std.specs.Prelude.{◌≡◌, ℕ, IsTrue, All, List, [], ◌∷◌, ◌++◌, map, Option, Some, None, Ok}
+use Rattle.pm_syn.specs.Names.{is_proper_name, is_spelled_as_name}
 use Rattle.pm_syn.specs.declared.expression.Arg.{Arg, Arg-F, fold-Arg}
 use Rattle.pm_syn.specs.declared.expression.Expr.{Expr, Expr-F, fold-Expr}
 use Rattle.pm_syn.specs.declared.statement.File.{File}
@@ -10,7 +10,6 @@ use Rattle.pm_syn.specs.declared.statement.Stmt.{Stmt, Stmt-F, fold-Stmt}
 use Rattle.pm_syn.specs.declared.token.Line.{Line}
 use Rattle.pm_syn.specs.declared.token.Token.{Token}
 use Rattle.pm_syn.specs.declared.token.TokenKind.TheVariants as kind
-use Rattle.pm_grammar.specs.Marks.{is_keyword}
 use Rattle.pm_parse.specs.Answers.{IsFileAnswer}
 
 -- names, in the order in which they stand
@@ -106,11 +105,11 @@ names_of nodes = all_names (map names_of_node nodes)
 
 -- spelled as a name, and no keyword
 abbrev pub IsProperName : List ℕ → Type 0
-IsProperName text = IsName text × (is_keyword text ≡ false)
+IsProperName text = IsTrue (is_proper_name text)
 
 -- the token is spelled as a name if it is of their kind
 abbrev pub IsSpelledAsKind : Token → Type 0
-IsSpelledAsKind token = token.kind ≡ kind.Name → IsName token.text
+IsSpelledAsKind token = token.kind ≡ kind.Name → IsTrue (is_spelled_as_name token.text)
 
 -- each token of the line that is of the names' kind is spelled as a name
 abbrev pub HasSpelledNames : Line → Type 0

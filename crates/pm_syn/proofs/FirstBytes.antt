@@ -13,13 +13,15 @@ use Rattle.pm_syn.specs.Bytes.{begins_name, continues_name}
 use Rattle.pm_syn.specs.Numbers.{IsLiteral}
 use Rattle.pm_syn.specs.Operators.{is_operator, one_byte, two_bytes, three_bytes}
 use Rattle.pm_syn.specs.Strings.{string_length, quoted_length, is_prefix, is_quote, closing_quote, closing_quotes}
-use Rattle.pm_syn.specs.Tokens.{IsName, IsToken}
+use Rattle.pm_syn.specs.Names.{is_spelled_as_name}
+use Rattle.pm_syn.specs.Tokens.{IsToken}
 use Rattle.pm_syn.specs.Lexemes.{Stands}
 use Rattle.pm_syn.specs.declared.lexeme.Sort.{Sort}
 use Rattle.pm_syn.specs.declared.lexeme.Sort.TheVariants as sort
 use Rattle.pm_syn.specs.declared.token.TokenKind.{TokenKind}
 use Rattle.pm_syn.specs.declared.token.TokenKind.TheVariants as kind
 use Rattle.pm_syn.proofs.Digits.{first_is_digit}
+use Rattle.pm_syn.proofs.NameBytes.{name_parts}
 
 -- a byte with which a gap begins
 abbrev begins_gap : ℕ → Bool
@@ -184,8 +186,8 @@ layout_no_string : (a : ℕ) (bytes : List ℕ) (n : ℕ) → is_layout a ≡ tr
 layout_no_string a bytes n layout is = elim (string_begins a bytes n is) [ inl name ↦ layout_no_name a layout name | inr quote ↦ layout_no_quote a layout quote ]
 
 -- a name at the head of a string is its prefix
-pub name_of_string : (name rest text : List ℕ) (n : ℕ) → name ++ rest ≡ text → IsName name → string_length text ≡ Some n → (length name ≡ 1) × (1 < n)
-name_of_string [] rest text n is name string = absurd name
+pub name_of_string : (name rest text : List ℕ) (n : ℕ) → name ++ rest ≡ text → is_spelled_as_name name ≡ true → string_length text ≡ Some n → (length name ≡ 1) × (1 < n)
+name_of_string [] rest text n is name string = absurd (false≢true name)
 name_of_string (a ∷ others) rest text n is name string = go (is_prefix a) refl (subst (λ bytes. string_length bytes ≡ Some n) (sym is) string) where
   one : (others : List ℕ) → All (λ byte. continues_name byte ≡ true) others → (b : ℕ) (behind : List ℕ) → others ++ rest ≡ b ∷ behind → is_quote b ≡ true
       → length (a ∷ others) ≡ 1
@@ -196,15 +198,15 @@ name_of_string (a ∷ others) rest text n is name string = go (is_prefix a) refl
   go : (prefixed : Bool) → is_prefix a ≡ prefixed → string_length (a ∷ (others ++ rest)) ≡ Some n → (length (a ∷ others) ≡ 1) × (1 < n)
   go true prefixed same =
       let next = prefixed_goes_on a (others ++ rest) n prefixed same in
-      (one others name.1 next.0 next.1 next.2 next.3, next.4)
+      (one others (name_parts a others name).1 next.0 next.1 next.2 next.3, next.4)
   go false prefixed same =
-      absurd (name_no_quote a (name_continues a name.0) (unprefixed_begins a (others ++ rest) n prefixed same).0)
+      absurd (name_no_quote a (name_continues a (name_parts a others name).0) (unprefixed_begins a (others ++ rest) n prefixed same).0)
 
 -- ---- the first byte of a text at whose head a token is spelled
 
-pub name_first : (a : ℕ) (others front rest : List ℕ) → front ++ rest ≡ a ∷ others → IsName front → begins_name a ≡ true
-name_first a others [] rest is name = absurd name
-name_first a others (b ∷ front) rest is name = let same : b ≡ a = cc in subst (λ byte. begins_name byte ≡ true) same name.0
+pub name_first : (a : ℕ) (others front rest : List ℕ) → front ++ rest ≡ a ∷ others → is_spelled_as_name front ≡ true → begins_name a ≡ true
+name_first a others [] rest is name = absurd (false≢true name)
+name_first a others (b ∷ front) rest is name = let same : b ≡ a = cc in subst (λ byte. begins_name byte ≡ true) same (name_parts b front name).0
 
 literal_some : (n : ℕ) → IsLiteral n [] → ⊥
 literal_some n (inl nought) = let spelled = nought.0 in cc
@@ -231,7 +233,7 @@ no_token_at_layout a others layout kind.Op front rest is token = mark_no_layout 
 -- a token has a byte
 pub token_some : (kind : TokenKind) (bytes after : List ℕ) → IsToken kind bytes after → 0 < length bytes
 token_some kind (a ∷ bytes) after is = omega arith
-token_some kind.Name [] after is = absurd is
+token_some kind.Name [] after is = absurd (false≢true is)
 token_some (kind.Int n) [] after is = absurd (literal_some n is)
 token_some kind.Str [] after is = string_some after 0 is
 token_some kind.Op [] after is = absurd (false≢true is)

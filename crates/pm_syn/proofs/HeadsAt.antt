@@ -22,6 +22,7 @@ use Rattle.pm_syn.specs.declared.token.TokenKind.{TokenKind}
 use Rattle.pm_syn.specs.declared.token.TokenKind.TheVariants as kind
 use Rattle.pm_syn.proofs.FirstBytes.{class_of, class_of_sort, first_byte, lexeme_first, name_first, literal_first, operator_first, string_some, name_of_string, digit_no_string, mark_no_string, mark_no_name, mark_no_digit, name_no_digit, name_continues}
 use Rattle.pm_syn.proofs.LiteralNumbers.{literal_writes_one}
+use Rattle.pm_syn.proofs.NameBytes.{name_of_parts, name_parts}
 
 -- ---- a token of each kind
 
@@ -78,10 +79,11 @@ all_in_front text = λ k d inside.
     rw get_or-take (prefix_len_passes continues_name text k d below)
 
 longest_name : (a : ℕ) (others : List ℕ) → string_length (a ∷ others) ≡ None → begins_name a ≡ true → IsLongest (a ∷ others) (prefix_len continues_name (a ∷ others))
-longest_name a others no_string name kind.Name [] rest is token = absurd token
+longest_name a others no_string name kind.Name [] rest is token = absurd (false≢true token)
 longest_name a others no_string name kind.Name (b ∷ front) rest is token =
+    let parts = name_parts b front token in
     subst (λ text. length (b ∷ front) ≤ prefix_len continues_name text) is (
-    name_in_front (b ∷ front) rest (All-cons (λ byte. continues_name byte ≡ true) b front (name_continues b token.0) token.1))
+    name_in_front (b ∷ front) rest (All-cons (λ byte. continues_name byte ≡ true) b front (name_continues b parts.0) parts.1))
 longest_name a others no_string name (kind.Int n) front rest is token = absurd (name_no_digit a name (literal_first n a others front rest is token))
 longest_name a others no_string name kind.Str front rest is token =
     let other : string_length (a ∷ others) ≡ Some (length front) = rw is at token in cc
@@ -96,7 +98,7 @@ name_head (a ∷ others) count some no_string name is =
     let one_more : prefix_len continues_name (a ∷ others) ≡ suc (prefix_len continues_name others) = rw (name_continues a name) (omega arith) in
     let within : prefix_len continues_name others ≤ length others = prefix_len-le-length continues_name others in
     subst (λ n. IsHead (a ∷ others) (record { sort = sort.Token kind.Name; length = n })) (sym (whole ∙ one_more)) (
-    token_head kind.Name (suc (prefix_len continues_name others)) (a ∷ others) (omega arith) (omega (arith, within)) (name, all_in_front others) (
+    token_head kind.Name (suc (prefix_len continues_name others)) (a ∷ others) (omega arith) (omega (arith, within)) (name_of_parts a (take (prefix_len continues_name others) others) name (all_in_front others)) (
     subst (IsLongest (a ∷ others)) one_more (longest_name a others no_string name)) tt)
 
 longest_literal : (a : ℕ) (others : List ℕ) (literal : Literal) → string_length (a ∷ others) ≡ None → is_ascii_digit a ≡ true

@@ -15,6 +15,7 @@ pub mod LinesGrown
 pub mod LiteralNumbers
 pub mod Literals
 pub mod MatchedBrackets
+pub mod NameBytes
 pub mod OneFault
 pub mod OneLexeme
 pub mod OneReading

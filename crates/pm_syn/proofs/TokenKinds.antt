@@ -1,12 +1,14 @@
 -- That one token stands at a place: its bytes and its kind are told by the text.
-use Rattle.std.proofs.Common.{◌≡◌, ℕ, List, [], ◌∷◌, ◌++◌, length, arith, refl, sym, ap, subst}
+use Rattle.std.proofs.Common.{◌≡◌, ℕ, List, [], ◌∷◌, ◌++◌, length, arith, refl, sym, ap, subst, true}
 use Rattle.std.specs.Prelude.{Some}
 use Rattle.pm_syn.specs.Strings.{string_length}
-use Rattle.pm_syn.specs.Tokens.{IsName, IsToken, IsLongestToken}
+use Rattle.pm_syn.specs.Names.{is_spelled_as_name}
+use Rattle.pm_syn.specs.Tokens.{IsToken, IsLongestToken}
 use Rattle.pm_syn.specs.declared.token.TokenKind.{TokenKind}
 use Rattle.pm_syn.specs.declared.token.TokenKind.TheVariants as kind
 use Rattle.pm_syn.proofs.FirstBytes.{literal_begins, operator_begins, token_some, name_of_string, digit_no_string, mark_no_string, mark_no_name, mark_no_digit, name_no_digit}
 use Rattle.pm_syn.proofs.LiteralNumbers.{literal_writes_one}
+use Rattle.pm_syn.proofs.NameBytes.{name_parts}
 
 -- fronts of one length of a text are one front, and the same is left behind them
 pub same_split : (front other rest behind : List ℕ) → length front ≡ length other → front ++ rest ≡ other ++ behind
@@ -21,7 +23,7 @@ same_split (byte ∷ front) (first ∷ other) rest behind same is =
     (let e = inside.0 in cc, inside.1)
 
 -- no name is a string, whatever stands behind it
-name_no_string : (bytes after : List ℕ) → IsName bytes → string_length (bytes ++ after) ≡ Some (length bytes) → ⊥
+name_no_string : (bytes after : List ℕ) → is_spelled_as_name bytes ≡ true → string_length (bytes ++ after) ≡ Some (length bytes) → ⊥
 name_no_string bytes after name string = let prefix = name_of_string bytes after (bytes ++ after) (length bytes) refl name string in omega (arith, prefix.0, prefix.1)
 
 -- the bytes and the text behind them tell the kind of the token
@@ -31,12 +33,12 @@ one_kind kind.Name kind.Name (a ∷ bytes) after is too = refl
 one_kind (kind.Int n) (kind.Int m) (a ∷ bytes) after is too = ap kind.Int (literal_writes_one n m (a ∷ bytes) is too)
 one_kind kind.Str kind.Str (a ∷ bytes) after is too = refl
 one_kind kind.Op kind.Op (a ∷ bytes) after is too = refl
-one_kind kind.Name (kind.Int n) (a ∷ bytes) after is too = absurd (name_no_digit a is.0 (literal_begins n a bytes too))
-one_kind (kind.Int n) kind.Name (a ∷ bytes) after is too = absurd (name_no_digit a too.0 (literal_begins n a bytes is))
+one_kind kind.Name (kind.Int n) (a ∷ bytes) after is too = absurd (name_no_digit a (name_parts a bytes is).0 (literal_begins n a bytes too))
+one_kind (kind.Int n) kind.Name (a ∷ bytes) after is too = absurd (name_no_digit a (name_parts a bytes too).0 (literal_begins n a bytes is))
 one_kind kind.Name kind.Str (a ∷ bytes) after is too = absurd (name_no_string (a ∷ bytes) after is too)
 one_kind kind.Str kind.Name (a ∷ bytes) after is too = absurd (name_no_string (a ∷ bytes) after too is)
-one_kind kind.Name kind.Op (a ∷ bytes) after is too = absurd (mark_no_name a (operator_begins a bytes too) is.0)
-one_kind kind.Op kind.Name (a ∷ bytes) after is too = absurd (mark_no_name a (operator_begins a bytes is) too.0)
+one_kind kind.Name kind.Op (a ∷ bytes) after is too = absurd (mark_no_name a (operator_begins a bytes too) (name_parts a bytes is).0)
+one_kind kind.Op kind.Name (a ∷ bytes) after is too = absurd (mark_no_name a (operator_begins a bytes is) (name_parts a bytes too).0)
 one_kind (kind.Int n) kind.Str (a ∷ bytes) after is too = absurd (digit_no_string a (bytes ++ after) (length (a ∷ bytes)) (literal_begins n a bytes is) too)
 one_kind kind.Str (kind.Int n) (a ∷ bytes) after is too = absurd (digit_no_string a (bytes ++ after) (length (a ∷ bytes)) (literal_begins n a bytes too) is)
 one_kind (kind.Int n) kind.Op (a ∷ bytes) after is too = absurd (mark_no_digit a (operator_begins a bytes too) (literal_begins n a bytes is))

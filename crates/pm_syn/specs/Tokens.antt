@@ -1,20 +1,15 @@
 -- Tokens: what is spelled at the head of a text, and the longest that is.
-use Rattle.std.specs.Prelude.{◌≡◌, ◌≤◌, ℕ, IsTrue, List, [], ◌∷◌, ◌++◌, All, length, Some}
-use Rattle.pm_syn.specs.Bytes.{begins_name, continues_name}
+use Rattle.std.specs.Prelude.{◌≡◌, ◌≤◌, ℕ, IsTrue, List, ◌++◌, length, Some}
+use Rattle.pm_syn.specs.Names.{is_spelled_as_name}
 use Rattle.pm_syn.specs.Numbers.{IsLiteral}
 use Rattle.pm_syn.specs.Strings.{string_length}
 use Rattle.pm_syn.specs.Operators.{is_operator}
 use Rattle.pm_syn.specs.declared.token.TokenKind.{TokenKind}
 use Rattle.pm_syn.specs.declared.token.TokenKind.TheVariants as kind
 
--- a letter or an underscore, then letters, digits and underscores
-abbrev pub IsName : List ℕ → Type 0
-IsName [] = ⊥
-IsName (first ∷ others) = IsTrue (begins_name first) × All (λ byte. IsTrue (continues_name byte)) others
-
 -- the bytes spell a token of the kind where this text follows them
 abbrev pub IsToken : TokenKind → List ℕ → List ℕ → Type 0
-IsToken kind.Name bytes after = IsName bytes
+IsToken kind.Name bytes after = IsTrue (is_spelled_as_name bytes)
 IsToken (kind.Int number) bytes after = IsLiteral number bytes
 IsToken kind.Str bytes after = string_length (bytes ++ after) ≡ Some (length bytes)
 IsToken kind.Op bytes after = IsTrue (is_operator bytes)

@@ -5,6 +5,7 @@ ghost use Rattle.pm_syn.specs.Lexemes.{IsComment};
 ghost use Rattle.pm_syn.specs.Bytes.{IsLineEnd};
 ghost use Rattle.pm_syn.specs.Heads.{IsHead, HasNoHead, HasNoToken};
 
+use crate::name::{begins_name, continues_name};
 use crate::number::literal_at;
 use crate::operator::operator_length;
 use crate::string::string_length;
@@ -113,18 +114,6 @@ fn token_at(text: &[u8]) -> Option<Head>
         return Some(Head::token(TokenKind::Int(literal.number?), literal.length));
     }
     Some(Head::token(TokenKind::Op, operator_length(text)?))
-}
-
-fn begins_name(byte: u8) -> bool
-    ensures { result ≡ bytes.begins_name byte }
-{
-    byte.is_ascii_alphabetic() || byte == b'_'
-}
-
-fn continues_name(byte: u8) -> bool
-    ensures { result ≡ bytes.continues_name byte }
-{
-    byte.is_ascii_alphanumeric() || byte == b'_'
 }
 
 /// How many bytes of a name stand at the head of the text.

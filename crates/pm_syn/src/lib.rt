@@ -1,7 +1,8 @@
 //! The text of a design file: its tokens and logical lines, and the types of the syntax tree that they make.
 //!
 //! `lex` reads a text into its logical lines, or names the first fault of the text. A text has at most one of these
-//! answers, and `laws` carries that. The syntax tree is data alone; the parser makes it.
+//! answers, and `laws` carries that. `is_keyword` and `is_proper_name` tell the words that are names. The syntax tree is
+//! data alone; the parser makes it.
 #![tactic(auto)]
 
 mod bracket;
@@ -14,6 +15,7 @@ mod indentation;
 pub mod laws;
 mod lexeme;
 mod lexing;
+mod name;
 mod number;
 mod operator;
 mod place;
@@ -27,5 +29,6 @@ mod token;
 pub use expression::{Arg, BinaryOp, Expr, UnaryOp};
 pub use fault::TextFault;
 pub use lexing::lex;
+pub use name::{is_keyword, is_proper_name};
 pub use statement::{AssignOp, File, Node, Par, Stmt};
 pub use token::{Line, Token, TokenKind};

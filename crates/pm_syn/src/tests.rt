@@ -1,5 +1,5 @@
 //! Texts and what they are read as.
-use crate::{TextFault, Token, lex};
+use crate::{TextFault, Token, is_keyword, is_proper_name, lex};
 use std::alloc::{AllocError, Global};
 use std::process::Abort;
 use std::test::Fail;
@@ -367,6 +367,39 @@ fn spelled_tokens(rt: HostRuntime) -> Result<(), Fail> {
     for (text, tokens) in SPELLINGS {
         let spelling = spelling_of(&rt, alloc, text.as_bytes())?;
         assert_eq!(rt; spelling.as_slice(), tokens.as_bytes(), "at {text:?}");
+    }
+    Ok(())
+}
+
+// Words that are names, the first and the last letter of each case and of the digits among them. Python keeps `with`; this
+// language doesn't.
+const NAMES: &[&str] = &[
+    "a", "z", "A", "Z", "_", "__", "s0", "x9", "_1", "in_", "true", "none", "Pass", "range",
+    "with", "classes",
+];
+
+const WORDS_OF_THE_LANGUAGE: &[&str] = &[
+    "and", "as", "assert", "class", "def", "elif", "else", "for", "from", "if", "import", "in",
+    "is", "lambda", "None", "not", "or", "pass", "return", "True", "False", "while",
+];
+
+const NO_NAMES: &[&str] = &[
+    "", "0", "9x", "a-b", "a.b", "a ", " a", "é", "@a", "[", "`", "{", "/",
+];
+
+#[test]
+fn names_are_told_from_other_words(rt: HostRuntime) -> Result<(), Fail> {
+    for word in NAMES {
+        assert!(rt; is_proper_name(word.as_bytes()), "at {word:?}");
+        assert!(rt; !is_keyword(word.as_bytes()), "at {word:?}");
+    }
+    for word in WORDS_OF_THE_LANGUAGE {
+        assert!(rt; is_keyword(word.as_bytes()), "at {word:?}");
+        assert!(rt; !is_proper_name(word.as_bytes()), "at {word:?}");
+    }
+    for word in NO_NAMES {
+        assert!(rt; !is_proper_name(word.as_bytes()), "at {word:?}");
+        assert!(rt; !is_keyword(word.as_bytes()), "at {word:?}");
     }
     Ok(())
 }
