@@ -1,7 +1,7 @@
 -- What is read of the arguments of a call.
 use Rattle.std.proofs.Common.{◌≡◌, ◌⊎◌, ◌∷◌, ◌++◌, ℕ, true, false, IsTrue, List, [], codes, append_assoc, append-nil, refl, sym, ap, subst, inl, inr, ◌∙◌}
 use Rattle.std.specs.Prelude.{Option, Some, None}
-use Rattle.std.proofs.lemmas.Bool.{false≢true, or_cases, or_left, or_right}
+use Rattle.std.proofs.lemmas.Bool.{false≢true, or_left, or_right}
 use Rattle.pm_syn.specs.declared.expression.Arg.{Arg}
 use Rattle.pm_syn.specs.declared.expression.Expr.{Expr}
 use Rattle.pm_syn.specs.declared.token.Token.{Token}
@@ -9,28 +9,18 @@ use Rattle.pm_grammar.specs.Brackets.{IsNoParameter, IsOnlyArgument, IsParameter
 use Rattle.pm_grammar.specs.Expressions.{Spells, SpellsArgument, SpellsArgumentSequence, SpellsArguments}
 use Rattle.pm_grammar.specs.Fronts.{IsBehind, IsNotThere, begins_with}
 use Rattle.pm_grammar.specs.Marks.{is_mark, is_name}
-use Rattle.pm_grammar.specs.Reading.{Begins, IsOnly, IsOnlyBefore, IsRead, continues}
+use Rattle.pm_grammar.specs.Reading.{Begins, IsOnly, IsOnlyBefore, IsRead}
 use Rattle.pm_grammar.specs.declared.level.Level.TheVariants as level
 use Rattle.pm_grammar.proofs.ArgumentNames.{argument_begun, no_equals}
 use Rattle.pm_grammar.proofs.ExpressionStarts.{opens, parenthesis_opens}
-use Rattle.pm_grammar.proofs.OneMark.{ends_comma, ends_parenthesis, parenthesis_no_comma}
+use Rattle.pm_grammar.proofs.OneMark.{argument_ends, no_argument_end, parenthesis_no_comma}
 use Rattle.pm_grammar.proofs.OperandStarts.{IsBegun, begun_expression}
-use Rattle.pm_grammar.proofs.TokenTexts.{of_mark}
 use Rattle.pm_grammar.proofs.Parts.{not_begun, front_closed}
 use Rattle.pm_grammar.proofs.Sequences.{SpellsFrom, arguments_are, more_done, more_first, more_on}
 
 -- ---- the name of a parameter
 
 -- ---- an argument
-
-ends_there : (t : Token) → IsTrue (ends_argument t) → continues level.Conditional t ≡ false
-ends_there t is = elim (or_cases (is_mark (codes ",") t) (is_mark (codes ")") t) is) [ inl comma ↦ ends_comma t comma | inr parenthesis ↦ ends_parenthesis t parenthesis ]
-
-ends_no_sign : (t : Token) → IsTrue (ends_argument t) → is_mark (codes "=") t ≡ false
-ends_no_sign t is = elim (or_cases (is_mark (codes ",") t) (is_mark (codes ")") t) is) [
-  | inl comma ↦ of_mark (codes ",") t (is_mark (codes "=")) false comma refl
-  | inr parenthesis ↦ of_mark (codes ")") t (is_mark (codes "=")) false parenthesis refl
-]
 
 -- an argument without a name, or with one
 record NamedReads (tokens : List Token) (a : Arg) (left : List Token) : Type 0 where
@@ -55,14 +45,14 @@ plain_found tokens rest e begins = (begins.0, begins.1, SpellsArgument.plain beg
 
 pub no_plain : (tokens : List Token) → IsNoParameter tokens → IsOnly level.Conditional tokens None → IsOnlyArgument tokens None
 no_plain tokens apart only a behind left ends begins = elim (argument_reads tokens (behind ∷ left) a begins) [
-  | inl plain ↦ only plain.0 (behind ∷ left) plain.2 (ends_there behind ends)
+  | inl plain ↦ only plain.0 (behind ∷ left) plain.2 (argument_ends behind ends)
   | inr named ↦ apart named.name named.tail named.parameter
 ]
 
 pub only_plain : (tokens rest : List Token) (e : Expr) → IsNoParameter tokens → IsOnly level.Conditional tokens (Some (e, rest)) → IsOnlyArgument tokens (Some (record { name = None; value = e }, rest))
 only_plain tokens rest e apart only a behind left ends begins = elim (argument_reads tokens (behind ∷ left) a begins) [
   | inl plain ↦
-      let was = only plain.0 (behind ∷ left) plain.2 (ends_there behind ends) in
+      let was = only plain.0 (behind ∷ left) plain.2 (argument_ends behind ends) in
       (plain.1 ∙ ap (λ (one : Expr). record { name = None; value = one }) was.0, was.1)
   | inr named ↦ absurd (apart named.name named.tail named.parameter)
 ]
@@ -77,7 +67,7 @@ no_plain_parameter tokens tail left name behind e parameter ends (front, split, 
       go (t ∷ []) is s begun =
           let there = parameter.1 in
           let same : behind ≡ parameter.0 = cc in
-          false≢true (sym (ends_no_sign behind ends) ∙ ap (is_mark (codes "=")) same ∙ parameter.3)
+          false≢true (sym (no_argument_end (codes "=") behind refl refl ends) ∙ ap (is_mark (codes "=")) same ∙ parameter.3)
       go (t ∷ u ∷ ts) is s begun =
           let there = parameter.1 in
           let first : t ≡ name = cc in
@@ -101,7 +91,7 @@ no_named tokens tail name parameter only a behind left ends begins = elim (argum
       let there = parameter.1 in
       let there' = named.parameter.1 in
       let same : named.tail ≡ tail = cc in
-      only named.e (behind ∷ left) (subst (λ (us : List Token). Begins (Spells level.Conditional) us named.e (behind ∷ left)) same named.e_begins) (ends_there behind ends)
+      only named.e (behind ∷ left) (subst (λ (us : List Token). Begins (Spells level.Conditional) us named.e (behind ∷ left)) same named.e_begins) (argument_ends behind ends)
 ]
 
 same_named : (a : Arg) (word text : List ℕ) (e f : Expr) → a ≡ record { name = Some word; value = e } → word ≡ text → e ≡ f → a ≡ record { name = Some text; value = f }
@@ -117,7 +107,7 @@ only_named tokens tail rest name text e parameter text_is only a behind left end
       let there' = named.parameter.1 in
       let same : named.tail ≡ tail = cc in
       let one : named.name ≡ name = cc in
-      let was = only named.e (behind ∷ left) (subst (λ (us : List Token). Begins (Spells level.Conditional) us named.e (behind ∷ left)) same named.e_begins) (ends_there behind ends) in
+      let was = only named.e (behind ∷ left) (subst (λ (us : List Token). Begins (Spells level.Conditional) us named.e (behind ∷ left)) same named.e_begins) (argument_ends behind ends) in
       let word : named.name.text ≡ text = ap (λ (t : Token). t.text) one ∙ sym text_is in
       (same_named a named.name.text text named.e e named.made word was.0, was.1)
 ]

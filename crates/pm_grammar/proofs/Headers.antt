@@ -20,7 +20,7 @@ use Rattle.pm_grammar.specs.Statements.{IsExpression, SpellsEnd, SpellsOptional,
 use Rattle.pm_grammar.specs.declared.level.Level.TheVariants as level
 use Rattle.pm_grammar.proofs.ExpressionStarts.{begins_more, none_opens, opens, opens_expression}
 use Rattle.pm_grammar.proofs.OneMark.{ends_colon, ends_parenthesis, other_mark, other_word}
-use Rattle.pm_grammar.proofs.StatementStarts.{no_simple_elif, no_simple_else, no_simple_if, opens_simple, opens_statement}
+use Rattle.pm_grammar.proofs.StatementStarts.{no_simple_elif, no_simple_else, no_simple_if, no_simple_in, opens_simple, opens_statement}
 use Rattle.pm_grammar.proofs.TokenTexts.{by_word}
 
 -- ---- nothing
@@ -42,10 +42,6 @@ pub read_some : {A : Type 0} (read : Option (A × List Token)) (one a : A) (rest
 read_some {A} read one a rest r some is = subst (λ (s : Option (A × List Token)). IsRead s one rest) some is
 
 -- ---- the end of a header
-
--- nothing is no simple statement
-pub no_simple_in : (s : Stmt) → SpellsSimple [] s → ⊥
-no_simple_in s is = false≢true (opens_statement is)
 
 -- no simple statement begins with the token
 pub not_simple : (first : Token) (ts : List Token) (s : Stmt) → opens_simple first ≡ false → SpellsSimple (first ∷ ts) s → ⊥

@@ -12,8 +12,8 @@ use Rattle.pm_grammar.specs.Headers.{IsGuard, OpensGuard, SpellsBase, SpellsBran
 use Rattle.pm_grammar.specs.Marks.{is_mark, is_name, is_word}
 use Rattle.pm_grammar.specs.Statements.{SpellsLine, SpellsSignature, class_alone, class_of, defined, elif_line, else_line, for_line, guarded, if_line, import_all, import_deque, import_names, marked, simple}
 use Rattle.pm_grammar.proofs.OneMark.{mark_no_word, other_word, word_no_mark}
-use Rattle.pm_grammar.proofs.StatementStarts.{no_simple_at, no_simple_class, no_simple_def, no_simple_for, no_simple_from, opens_simple}
-use Rattle.pm_grammar.proofs.Headers.{no_simple_in, not_simple}
+use Rattle.pm_grammar.proofs.StatementStarts.{no_simple_at, no_simple_class, no_simple_def, no_simple_for, no_simple_from, no_simple_in, opens_simple}
+use Rattle.pm_grammar.proofs.Headers.{not_simple}
 
 -- a logical line by its first token
 data IsLine : List Token → Stmt → Type 0 where

@@ -1,6 +1,6 @@
 -- That tokens spell one expression: what was spelled is the only reading, part by part.
-use Rattle.std.proofs.Common.{◌≡◌, ◌++◌, ◌∙◌, ℕ, Bool, false, true, IsTrue, List, [], ◌∷◌, codes, Some, None, append_assoc, refl, sym, ap, subst, inl, inr}
-use Rattle.std.proofs.lemmas.Bool.{both_ways, or_cases, or_left, or_right}
+use Rattle.std.proofs.Common.{◌≡◌, ◌++◌, ◌∙◌, ℕ, Bool, false, true, IsTrue, List, [], ◌∷◌, codes, Some, None, append_assoc, refl, sym, ap, subst}
+use Rattle.std.proofs.lemmas.Bool.{both_ways, or_left, or_right}
 use Rattle.pm_syn.specs.declared.expression.Arg.{Arg}
 use Rattle.pm_syn.specs.declared.expression.Expr.{Expr}
 use Rattle.pm_syn.specs.declared.expression.Expr as leaf
@@ -13,13 +13,13 @@ use Rattle.pm_grammar.specs.Fronts.{IsNotThere, begins_with}
 use Rattle.pm_grammar.specs.Laws.{TokensSpellOneExpression}
 use Rattle.pm_grammar.specs.Levels.{tighter}
 use Rattle.pm_grammar.specs.Marks.{is_mark, is_name, is_op, is_word}
-use Rattle.pm_grammar.specs.Reading.{Ends, IsOnlyBeginning, IsOnlyBefore, IsOnly, continues}
+use Rattle.pm_grammar.specs.Reading.{Ends, IsOnlyBeginning, IsOnlyBefore, IsOnly}
 use Rattle.pm_grammar.specs.declared.level.Level.{Level}
 use Rattle.pm_grammar.specs.declared.level.Level.TheVariants as level
 use Rattle.pm_grammar.proofs.Atoms.{only_false, only_int, only_name, only_true}
 use Rattle.pm_grammar.proofs.ArgumentNames.{argument_begun}
 use Rattle.pm_grammar.proofs.ExpressionStarts.{closing_opens, opens, parenthesis_opens}
-use Rattle.pm_grammar.proofs.OneMark.{ends_bracket, ends_comma, ends_for, ends_parenthesis, name_is}
+use Rattle.pm_grammar.proofs.OneMark.{argument_ends, bracket_no_comma, ends_bracket, ends_comma, ends_for, ends_parenthesis, name_is}
 use Rattle.pm_grammar.proofs.OperandStarts.{IsBegun, begun_expression}
 use Rattle.pm_grammar.proofs.TokenTexts.{of_mark, of_word}
 use Rattle.pm_grammar.proofs.CallArguments.{GoesOnArguments, goes_argument, goes_arguments, no_plain_parameter, only_arguments, only_last, only_named, only_plain}
@@ -99,16 +99,13 @@ sequence_begun ts es spelled =
 abbrev IsOneList : List Token → List Expr → Type 0
 IsOneList ts es = (closing : Token) (rest : List Token) → IsTrue (is_mark (codes "]") closing) → IsOnlyBeginning SpellsList (ts ++ closing ∷ rest) (Some (expr.Items es, rest))
 
-no_comma : (closing : Token) → IsTrue (is_mark (codes "]") closing) → is_mark (codes ",") closing ≡ false
-no_comma closing is = of_mark (codes "]") closing (is_mark (codes ",")) false is refl
-
 one_list_of : (ts : List Token) (es : List Expr) → SpellsSequence ts es → IsOneSequence ts es → IsOneList ts es
 one_list_of ts es spelled one closing rest is =
     let no_for : is_word (codes "for") closing ≡ false = of_mark (codes "]") closing (is_word (codes "for")) false is refl in
     let inner = one (closing ∷ rest) (ends_bracket closing is) no_for in
     only_list (ts ++ closing ∷ rest) inner.behind (closing ∷ rest) rest inner.first es
     (not_there (is_mark (codes "]")) closing_opens ts (closing ∷ rest) (sequence_begun ts es spelled)) inner.first_only inner.no_for
-    (only_items inner.behind (closing ∷ rest) inner.first es inner.items (no_comma closing is)) (closing, refl, is)
+    (only_items inner.behind (closing ∷ rest) inner.first es inner.items (bracket_no_comma closing is)) (closing, refl, is)
 
 one_list_comma : (ts : List Token) (comma : Token) (es : List Expr) → IsTrue (is_mark (codes ",") comma) → SpellsSequence ts es → IsOneSequence ts es → IsOneList (ts ++ comma ∷ []) es
 one_list_comma ts comma es mark spelled one closing rest is =
@@ -164,18 +161,15 @@ one_each ts us opening for_word closing e name bounds is_open is_for is_close sp
 abbrev IsOneArgument : List Token → Arg → Type 0
 IsOneArgument ts a = (behind : Token) (rest : List Token) → IsTrue (ends_argument behind) → IsOnlyArgument (ts ++ behind ∷ rest) (Some (a, behind ∷ rest))
 
-ends_there : (behind : Token) → IsTrue (ends_argument behind) → continues level.Conditional behind ≡ false
-ends_there behind is = elim (or_cases (is_mark (codes ",") behind) (is_mark (codes ")") behind) is) [ inl comma ↦ ends_comma behind comma | inr closing ↦ ends_parenthesis behind closing ]
-
 one_plain : (ts : List Token) (e : Expr) → Spells level.Conditional ts e → IsOne level.Conditional ts e → IsOneArgument ts (record { name = None; value = e })
 one_plain ts e spelled one behind rest is =
     let none : IsNoParameter (ts ++ behind ∷ rest) = λ name tail parameter. no_plain_parameter (ts ++ behind ∷ rest) tail rest name behind e parameter is (ts, refl, spelled) in
-    only_plain (ts ++ behind ∷ rest) (behind ∷ rest) e none ((one (behind ∷ rest)).only (ends_there behind is))
+    only_plain (ts ++ behind ∷ rest) (behind ∷ rest) e none ((one (behind ∷ rest)).only (argument_ends behind is))
 
 one_named : (ts : List Token) (name sign : Token) (e : Expr) → IsTrue (is_name name) → IsTrue (is_mark (codes "=") sign) → IsOne level.Conditional ts e
     → IsOneArgument (name ∷ sign ∷ ts) (record { name = Some name.text; value = e })
 one_named ts name sign e named mark one behind rest is =
-    only_named (name ∷ sign ∷ (ts ++ behind ∷ rest)) (ts ++ behind ∷ rest) (behind ∷ rest) name name.text e (sign, refl, named, mark) refl ((one (behind ∷ rest)).only (ends_there behind is))
+    only_named (name ∷ sign ∷ (ts ++ behind ∷ rest)) (ts ++ behind ∷ rest) (behind ∷ rest) name name.text e (sign, refl, named, mark) refl ((one (behind ∷ rest)).only (argument_ends behind is))
 
 -- arguments were read, and the last one behind them
 record AreArgumentsRead (ts : List Token) (arguments : List Arg) (rest : List Token) : Type 0 where

@@ -1,11 +1,12 @@
 -- That a token is one mark or one word, so that it isn't another one.
-use Rattle.std.proofs.Common.{◌≡◌, ℕ, Bool, true, false, not, IsTrue, List, ◌∷◌, codes, bytes_eq, refl, ap}
+use Rattle.std.proofs.Common.{◌≡◌, ℕ, Bool, true, false, not, IsTrue, List, ◌∷◌, codes, bytes_eq, refl, ap, inl, inr}
 use Rattle.std.specs.Prelude.{Some, None, if◌then◌else◌}
-use Rattle.std.proofs.lemmas.Bool.{and_parts}
+use Rattle.std.proofs.lemmas.Bool.{and_parts, or_cases}
 use Rattle.pm_syn.specs.declared.expression.BinaryOp.{BinaryOp}
 use Rattle.pm_syn.specs.declared.expression.BinaryOp.TheVariants as binary
 use Rattle.pm_syn.specs.declared.token.Token.{Token}
 use Rattle.pm_syn.specs.declared.token.TokenKind.TheVariants as kind
+use Rattle.pm_grammar.specs.Brackets.{ends_argument}
 use Rattle.pm_grammar.specs.Levels.{operator_at}
 use Rattle.pm_syn.specs.Names.{is_keyword}
 use Rattle.pm_grammar.specs.Marks.{is_mark, is_name, is_name_kind, is_word}
@@ -118,3 +119,15 @@ no_operator l token is = of_mark (codes "=") token (operator_at l) None is (at l
   at level.Power = refl
   at level.Postfix = refl
   at level.Atom = refl
+
+-- ---- where an argument or a parameter ends
+
+-- no expression goes on there
+pub argument_ends : (token : Token) → IsTrue (ends_argument token) → continues level.Conditional token ≡ false
+argument_ends token is = elim (or_cases _ _ is) [ inl comma ↦ ends_comma token comma | inr closing ↦ ends_parenthesis token closing ]
+
+-- another mark doesn't end it
+pub no_argument_end : (bytes : List ℕ) (token : Token) → bytes_eq (codes ",") bytes ≡ false → bytes_eq (codes ")") bytes ≡ false → IsTrue (ends_argument token)
+    → is_mark bytes token ≡ false
+no_argument_end bytes token no_comma no_closing is =
+    elim (or_cases _ _ is) [ inl comma ↦ other_mark (codes ",") bytes token no_comma comma | inr closing ↦ other_mark (codes ")") bytes token no_closing closing ]

@@ -29,8 +29,8 @@ use Rattle.pm_grammar.proofs.Conditionals.{only_conditional, only_value}
 use Rattle.pm_grammar.proofs.LevelRanks.{groups_below, tighter_within}
 use Rattle.pm_grammar.proofs.OneLevel.{GoesOnAt, ends_operand, goes_at_first, goes_at_next, only_at, only_compared, only_negation, only_positive, only_uncompared}
 use Rattle.pm_grammar.proofs.OperatorLevels.{ends_at, ends_tighter}
-use Rattle.pm_grammar.proofs.Powers.{only_base, only_power, only_signed, only_unsigned}
-use Rattle.pm_grammar.proofs.SuffixChains.{GoesOnSuffixes, goes_atom, goes_suffix, only_postfix}
+use Rattle.pm_grammar.proofs.Powers.{ends_unary, only_base, only_power, only_signed, only_unsigned}
+use Rattle.pm_grammar.proofs.SuffixChains.{GoesOnSuffixes, ends_atom, goes_atom, goes_suffix, only_postfix}
 use Rattle.pm_grammar.proofs.SuffixKinds.{only_attribute, only_call, only_index, only_slice, only_suffix_attribute, only_suffix_call, only_suffix_place}
 
 -- each reading of the tokens is this one, or goes on from it where the level groups to the left or has suffixes
@@ -85,10 +85,6 @@ no_power (t ∷ rest) ends = is_no_power (is_mark (codes "**") t) (or_parts _ _ 
 no_suffix : (rest : List Token) → Ends level.Postfix rest → begins_suffix rest ≡ false
 no_suffix [] ends = refl
 no_suffix (t ∷ rest) ends = ends
-
-ends_atom : (rest : List Token) → Ends level.Atom rest
-ends_atom [] = tt
-ends_atom (t ∷ rest) = refl
 
 is_none : (o : Option UnaryOp) → ((op : UnaryOp) → o ≡ Some op → ⊥) → o ≡ None
 is_none None never = refl
@@ -173,10 +169,6 @@ one_comparison ts us sign op left right is one two = plainly level.Comparison (t
 pub one_signed : (ts : List Token) (sign : Token) (op : UnaryOp) (e : Expr) → sign_of sign ≡ Some op → IsOne level.Unary ts e → IsOne level.Unary (sign ∷ ts) (expr.Unary op e)
 one_signed ts sign op e is one = plainly level.Unary (sign ∷ ts) (expr.Unary op e) refl (λ at. omega (arith, at)) (λ rest ends.
     only_signed (sign ∷ (ts ++ rest)) (ts ++ rest) rest sign op e refl is ((one rest).only ends))
-
-ends_unary : (rest : List Token) → Ends level.Power rest → Ends level.Unary rest
-ends_unary [] ends = tt
-ends_unary (t ∷ rest) ends = ends
 
 power_operator : (test : Bool) (op : BinaryOp) → (if test then Some binary.Pow else None) ≡ Some op → (binary.Pow ≡ op) × (test ≡ true)
 power_operator true op is = (cc, refl)

@@ -1,6 +1,6 @@
 -- That the tokens of a logical line spell one statement.
 use Rattle.std.proofs.Common.{◌≡◌, ◌⊎◌, ◌++◌, ◌∙◌, ℕ, Bool, false, true, IsTrue, List, [], ◌∷◌, codes, Option, Some, None, append_assoc, refl, sym, ap, subst, inl, inr}
-use Rattle.std.proofs.lemmas.Bool.{both_ways, false_from_ne_true, false≢true, or_cases, or_left, or_right}
+use Rattle.std.proofs.lemmas.Bool.{both_ways, false_from_ne_true, false≢true, or_left, or_right}
 use Rattle.std.proofs.lemmas.Option.{same_Some}
 use Rattle.std.specs.Str.{bytes_eq}
 use Rattle.pm_syn.specs.declared.expression.Expr.{Expr}
@@ -10,23 +10,24 @@ use Rattle.pm_syn.specs.declared.statement.Stmt as leaf
 use Rattle.pm_syn.specs.declared.statement.Stmt.TheViews as stmt
 use Rattle.pm_syn.specs.declared.token.Token.{Token}
 use Rattle.pm_grammar.specs.Fronts.{IsNotThere, begins_with}
-use Rattle.pm_grammar.specs.Headers.{IsGuard, IsOnlyParameter, IsSignature, OpensGuard, SpellsBase, SpellsBranch, SpellsClass, SpellsDecorator, SpellsDefinition, SpellsFunctionEnd, SpellsImport, ends_parameter}
+use Rattle.pm_grammar.specs.Brackets.{ends_argument}
+use Rattle.pm_grammar.specs.Headers.{IsGuard, IsOnlyParameter, IsSignature, OpensGuard, SpellsBase, SpellsBranch, SpellsClass, SpellsDecorator, SpellsDefinition, SpellsFunctionEnd, SpellsImport}
 use Rattle.pm_grammar.specs.Headers as header
 use Rattle.pm_grammar.specs.Laws.{TokensSpellOneStatement}
 use Rattle.pm_grammar.specs.Marks.{is_mark, is_name, is_word}
-use Rattle.pm_grammar.specs.Reading.{Ends, IsOnlyBefore, continues}
+use Rattle.pm_grammar.specs.Reading.{Ends, IsOnlyBefore}
 use Rattle.pm_grammar.specs.Statements.{IsExpression, SpellsEnd, SpellsLine, SpellsOptional, SpellsParameter, SpellsParameters, SpellsResult, SpellsSignature, SpellsSimple}
 use Rattle.pm_grammar.specs.Statements as line
 use Rattle.pm_grammar.specs.declared.level.Level.TheVariants as level
 use Rattle.pm_grammar.proofs.Headers.{IsOnlyCondition, elif_read, else_read, expression_before, guard_read_once, if_read, none_behind, only_alone, only_before_end, only_with, optional_behind, result_behind, some_behind}
 use Rattle.pm_grammar.proofs.Headers as headers
 use Rattle.pm_grammar.proofs.ExpressionStarts.{none_opens, opens, opens_expression}
-use Rattle.pm_grammar.proofs.OneMark.{ends_colon, ends_comma, ends_equals, ends_parenthesis, mark_no_name, mark_no_word, other_mark, other_word, word_no_mark}
+use Rattle.pm_grammar.proofs.OneMark.{argument_ends, ends_colon, ends_parenthesis, mark_no_name, mark_no_word, no_argument_end, other_mark, other_word, word_no_mark}
 use Rattle.pm_grammar.proofs.StatementStarts.{no_simple_at, no_simple_class, no_simple_def, no_simple_elif, no_simple_else, no_simple_for, no_simple_from, no_simple_if, opens_simple, opens_statement}
 use Rattle.pm_grammar.proofs.Lines.{at_only, branch_only, class_only, def_only, for_only, import_read}
 use Rattle.pm_grammar.proofs.OneExpression.{only_expression_spelled, only_range_spelled}
 use Rattle.pm_grammar.proofs.OneSimpleStatement.{one_simple}
-use Rattle.pm_grammar.proofs.Signatures.{IsGoingOn, IsOnlyOptional, definition_only, function_end_only, goes_first, goes_next, no_self_only, only_parameter, signature_only, trailing_only}
+use Rattle.pm_grammar.proofs.Signatures.{IsGoingOn, IsOnlyOptional, definition_only, function_end_only, goes_first, goes_next, no_self_only, note_ends, only_parameter, signature_only, trailing_only}
 
 -- ---- the end of a header
 
@@ -67,35 +68,22 @@ one_optional bytes _ rest _ (line.present sign ts e is spelled) not_there ends =
     let same = only_expression_spelled ts rest e spelled ends read.0 left read.2 left_ends in
     (read.1 ∙ ap Some same.0, same.1)
 
-parameter_ends : (token : Token) → IsTrue (ends_parameter token) → continues level.Conditional token ≡ false
-parameter_ends token is = elim (or_cases _ _ is) [ inl comma ↦ ends_comma token comma | inr closing ↦ ends_parenthesis token closing ]
-
--- a mark that ends no parameter
-no_end : (bytes : List ℕ) (token : Token) → bytes_eq (codes ",") bytes ≡ false → bytes_eq (codes ")") bytes ≡ false → IsTrue (ends_parameter token) → is_mark bytes token ≡ false
-no_end bytes token no_comma no_closing is =
-    elim (or_cases _ _ is) [ inl comma ↦ other_mark (codes ",") bytes token no_comma comma | inr closing ↦ other_mark (codes ")") bytes token no_closing closing ]
-
--- an annotation ends where a default begins, or behind the parameter
-note_ends : (us : List Token) (default : Option Expr) → SpellsOptional (codes "=") us default → (next : Token) (rest : List Token) → IsTrue (ends_parameter next) → IsNotThere (is_mark (codes ":")) (us ++ next ∷ rest) × Ends level.Conditional (us ++ next ∷ rest)
-note_ends _ _ line.absent next rest is = (no_end (codes ":") next refl refl is, parameter_ends next is)
-note_ends _ _ (line.present sign us e mark spelled) next rest is = (other_mark (codes "=") (codes ":") sign refl mark, ends_equals sign mark)
-
-one_parameter : (ts : List Token) (p : Par) → SpellsParameter ts p → (next : Token) (rest : List Token) → IsTrue (ends_parameter next) → IsOnlyParameter (ts ++ next ∷ rest) (Some (p, next ∷ rest))
+one_parameter : (ts : List Token) (p : Par) → SpellsParameter ts p → (next : Token) (rest : List Token) → IsTrue (ends_argument next) → IsOnlyParameter (ts ++ next ∷ rest) (Some (p, next ∷ rest))
 one_parameter _ _ (line.parameter name ts us note default named note_is default_is) next rest is =
     let behind = next ∷ rest in
     let mid = us ++ behind in
     let tail = (ts ++ us) ++ behind in
-    let ends = note_ends us default default_is next rest is in
+    let ends = note_ends default_is next rest is in
     let notes : IsOnlyOptional (codes ":") tail (Some (note, mid)) =
     subst (λ (xs : List Token). IsOnlyOptional (codes ":") xs (Some (note, mid))) (sym (append_assoc ts us behind)) (one_optional (codes ":") ts mid note note_is ends.0 ends.1) in
-    let defaults : IsOnlyOptional (codes "=") mid (Some (default, behind)) = one_optional (codes "=") us behind default default_is (no_end (codes "=") next refl refl is) (parameter_ends next is) in
+    let defaults : IsOnlyOptional (codes "=") mid (Some (default, behind)) = one_optional (codes "=") us behind default default_is (no_argument_end (codes "=") next refl refl is) (argument_ends next is) in
     only_parameter (name ∷ tail) tail mid behind name name.text note default (Some (note, mid)) (Some (default, behind)) refl notes refl defaults refl refl
 
 -- a parameter begins with a name
 parameter_begun : (ts : List Token) (p : Par) → SpellsParameter ts p → (rest : List Token) → begins_with (is_mark (codes ")")) (ts ++ rest) ≡ false
 parameter_begun _ _ (line.parameter name _ _ _ _ named _ _) rest = false_from_ne_true _ (λ is. both_ways (is_name name) (mark_no_name (codes ")") name is) named)
 
-one_going_on : (ts : List Token) (ps : List Par) → SpellsParameters ts ps → (next : Token) (rest : List Token) → IsTrue (ends_parameter next) → IsGoingOn (ts ++ next ∷ rest) ps (next ∷ rest)
+one_going_on : (ts : List Token) (ps : List Par) → SpellsParameters ts ps → (next : Token) (rest : List Token) → IsTrue (ends_argument next) → IsGoingOn (ts ++ next ∷ rest) ps (next ∷ rest)
 one_going_on _ _ (line.itself word is) next rest ends = goes_first (word ∷ next ∷ rest) (next ∷ rest) (word, refl, is)
 one_going_on _ _ (line.and_parameter comma ts us ps p first mark spelled) next rest ends =
     let tail = us ++ next ∷ rest in

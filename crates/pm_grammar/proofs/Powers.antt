@@ -68,7 +68,8 @@ ends_base : (rest : List Token) → Ends level.Power rest → Ends level.Postfix
 ends_base [] ends = tt
 ends_base (t ∷ rest) ends = (or_parts (is_some (operator_at level.Power t)) (is_suffix t) ends).1
 
-ends_unary : (rest : List Token) → Ends level.Power rest → Ends level.Unary rest
+-- and one with a sign
+pub ends_unary : (rest : List Token) → Ends level.Power rest → Ends level.Unary rest
 ends_unary [] ends = tt
 ends_unary (t ∷ rest) ends = ends
 

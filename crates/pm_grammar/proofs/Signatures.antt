@@ -1,6 +1,6 @@
 -- Parameters one after the other, as a signature is read.
 use Rattle.std.proofs.Common.{◌≡◌, ◌∙◌, ◌⊎◌, ◌∷◌, ◌++◌, ℕ, Bool, true, false, IsTrue, List, [], codes, append_assoc, Option, Some, None, refl, sym, ap, subst, inl, inr}
-use Rattle.std.proofs.lemmas.Bool.{both_ways, or_cases, or_left, or_right}
+use Rattle.std.proofs.lemmas.Bool.{both_ways, or_left, or_right}
 use Rattle.std.proofs.lemmas.Option.{none-some, same_Some, some_pair_parts}
 use Rattle.pm_syn.specs.declared.expression.Expr.{Expr}
 use Rattle.pm_syn.specs.declared.statement.Par.{Par}
@@ -8,12 +8,13 @@ use Rattle.pm_syn.specs.declared.statement.Stmt.{Stmt}
 use Rattle.pm_syn.specs.declared.statement.Stmt.TheViews as stmt
 use Rattle.pm_syn.specs.declared.token.Token.{Token}
 use Rattle.pm_grammar.specs.Fronts.{IsBehind, IsNotThere, begins_with}
-use Rattle.pm_grammar.specs.Headers.{IsOnlyParameter, IsSignature, SpellsDefinition, SpellsFunctionEnd, definition, ends_parameter, function_end}
+use Rattle.pm_grammar.specs.Brackets.{ends_argument}
+use Rattle.pm_grammar.specs.Headers.{IsOnlyParameter, IsSignature, SpellsDefinition, SpellsFunctionEnd, definition, function_end}
 use Rattle.pm_grammar.specs.Marks.{is_mark, is_name, is_word}
-use Rattle.pm_grammar.specs.Reading.{Begins, Ends, IsOnlyBefore, IsRead, continues}
+use Rattle.pm_grammar.specs.Reading.{Begins, Ends, IsOnlyBefore, IsRead}
 use Rattle.pm_grammar.specs.Statements.{SpellsEnd, SpellsOptional, SpellsParameter, SpellsParameters, SpellsResult, SpellsSignature, absent, and_parameter, itself, parameter, parameters_comma, present, with_parameters, without_parameters}
 use Rattle.pm_grammar.specs.declared.level.Level.TheVariants as level
-use Rattle.pm_grammar.proofs.OneMark.{ends_comma, ends_equals, ends_parenthesis, mark_no_name, mark_no_word, other_mark}
+use Rattle.pm_grammar.proofs.OneMark.{argument_ends, ends_equals, mark_no_name, mark_no_word, no_argument_end, other_mark}
 use Rattle.pm_grammar.proofs.Headers.{none_before_end, only_before_end, read_none, read_some}
 
 pair_is : {A B : Type 0} (pair : A × B) (a : A) (b : B) → pair.0 ≡ a → pair.1 ≡ b → pair ≡ (a, b)
@@ -21,31 +22,10 @@ pair_is {A} {B} pair a b first second = ap (λ (x : A). (x, pair.1)) first ∙ a
 
 -- ---- where a parameter ends
 
-end_ends : (token : Token) → IsTrue (ends_parameter token) → continues level.Conditional token ≡ false
-end_ends token is =
-    elim (or_cases _ _ is) [
-      | inl comma ↦ ends_comma token comma
-      | inr closing ↦ ends_parenthesis token closing
-    ]
-
-end_is_no_colon : (token : Token) → IsTrue (ends_parameter token) → is_mark (codes ":") token ≡ false
-end_is_no_colon token is =
-    elim (or_cases _ _ is) [
-      | inl comma ↦ other_mark (codes ",") (codes ":") token refl comma
-      | inr closing ↦ other_mark (codes ")") (codes ":") token refl closing
-    ]
-
-end_is_no_equals : (token : Token) → IsTrue (ends_parameter token) → is_mark (codes "=") token ≡ false
-end_is_no_equals token is =
-    elim (or_cases _ _ is) [
-      | inl comma ↦ other_mark (codes ",") (codes "=") token refl comma
-      | inr closing ↦ other_mark (codes ")") (codes "=") token refl closing
-    ]
-
 -- where a default or the end of a parameter begins, no annotation goes on
-note_ends : {us : List Token} {default : Option Expr} → SpellsOptional (codes "=") us default → (next : Token) (rest : List Token) → IsTrue (ends_parameter next)
+pub note_ends : {us : List Token} {default : Option Expr} → SpellsOptional (codes "=") us default → (next : Token) (rest : List Token) → IsTrue (ends_argument next)
     → IsNotThere (is_mark (codes ":")) (us ++ (next ∷ rest)) × Ends level.Conditional (us ++ (next ∷ rest))
-note_ends absent next rest is = (end_is_no_colon next is, end_ends next is)
+note_ends absent next rest is = (no_argument_end (codes ":") next refl refl is, argument_ends next is)
 note_ends (present sign ts e sign_is inner) next rest is = (other_mark (codes "=") (codes ":") sign refl sign_is, ends_equals sign sign_is)
 
 -- ---- a parameter
@@ -74,7 +54,7 @@ parameter_behind : (all tail : List Token) (name : Token) → all ≡ name ∷ t
 parameter_behind all tail name front one next rest begins = parameter_is begins.2 name next tail rest (sym front ∙ begins.1)
 
 note_read : (all tail : List Token) (name : Token) (read : Option (Option Expr × List Token)) → all ≡ name ∷ tail → IsOnlyOptional (codes ":") tail read
-    → (one : Par) (next : Token) (rest : List Token) → IsTrue (ends_parameter next) → (begins : Begins SpellsParameter all one (next ∷ rest))
+    → (one : Par) (next : Token) (rest : List Token) → IsTrue (ends_argument next) → (begins : Begins SpellsParameter all one (next ∷ rest))
     → (behind : IsParameterBehind name tail one next rest) × IsRead read behind.0 (behind.2 ++ (next ∷ rest))
 note_read all tail name read front only one next rest is begins =
     let behind = parameter_behind all tail name front one next rest begins in
@@ -87,12 +67,12 @@ no_note all tail name read front only none one next rest is begins =
     read_none read here.0.0 _ none here.1
 
 default_read : (all tail mid : List Token) (name : Token) (note : Option Expr) (read also : Option (Option Expr × List Token)) → all ≡ name ∷ tail → IsOnlyOptional (codes ":") tail read → read ≡ Some (note, mid)
-    → IsOnlyOptional (codes "=") mid also → (one : Par) (next : Token) (rest : List Token) → IsTrue (ends_parameter next) → Begins SpellsParameter all one (next ∷ rest)
+    → IsOnlyOptional (codes "=") mid also → (one : Par) (next : Token) (rest : List Token) → IsTrue (ends_argument next) → Begins SpellsParameter all one (next ∷ rest)
     → (default : Option Expr) × (one ≡ par_of name.text note default) × IsRead also default (next ∷ rest)
 default_read all tail mid name note read also front only some then_only one next rest is begins =
     let here = note_read all tail name read front only one next rest is begins in
     let same = read_some read here.0.0 note (here.0.2 ++ (next ∷ rest)) mid some here.1 in
-    (here.0.1, here.0.3 ∙ ap (λ (n : Option Expr). par_of name.text n here.0.1) same.0, then_only here.0.1 (next ∷ rest) (here.0.2, sym same.1, here.0.5) (end_is_no_equals next is) (end_ends next is))
+    (here.0.1, here.0.3 ∙ ap (λ (n : Option Expr). par_of name.text n here.0.1) same.0, then_only here.0.1 (next ∷ rest) (here.0.2, sym same.1, here.0.5) (no_argument_end (codes "=") next refl refl is) (argument_ends next is))
 
 pub no_default : (all tail mid : List Token) (name : Token) (note : Option Expr) (read also : Option (Option Expr × List Token)) → all ≡ name ∷ tail → IsOnlyOptional (codes ":") tail read → read ≡ Some (note, mid)
     → IsOnlyOptional (codes "=") mid also → also ≡ None → IsOnlyParameter all None
@@ -184,7 +164,7 @@ goes_is (goes ps every p comma us ts rest is spelled on) = inr (inr (comma, us, 
 
 -- where a signature goes on or ends, a parameter ends
 goes_begins : {ps every : List Par} {ts : List Token} (closing : Token) (rest : List Token) → IsTrue (is_mark (codes ")") closing) → GoesOn ps ts every (closing ∷ rest)
-    → (next : Token) × (tail : List Token) × (ts ≡ next ∷ tail) × IsTrue (ends_parameter next)
+    → (next : Token) × (tail : List Token) × (ts ≡ next ∷ tail) × IsTrue (ends_argument next)
 goes_begins closing rest is on =
     elim (goes_is on) [
       | inl end ↦ (closing, rest, end.0, or_right _ _ is)

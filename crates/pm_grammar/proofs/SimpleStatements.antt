@@ -23,6 +23,7 @@ use Rattle.pm_grammar.specs.Statements.{AreStrings, IsExpression, SpellsSimple, 
 use Rattle.pm_grammar.specs.declared.level.Level.TheVariants as level
 use Rattle.pm_grammar.proofs.ExpressionStarts.{begins_more, no_expression-word, opens, opens_expression}
 use Rattle.pm_grammar.proofs.OneMark.{ends_colon, ends_comma, ends_equals}
+use Rattle.pm_grammar.proofs.StatementStarts.{no_simple_in}
 use Rattle.pm_grammar.proofs.TokenTexts.{by_mark, by_string, by_word, like}
 
 -- ---- what an expression was read as
@@ -426,11 +427,8 @@ form_by_word : (bytes : List ℕ) (k : Beginning) (word : Token) (ts : List Toke
     → SpellsSimple (word ∷ ts) s → FormOf k (word ∷ ts) s
 form_by_word bytes k word ts s begins is spelled = subst (λ k. FormOf k (word ∷ ts) s) (by_word bytes word (λ t. beginning_of t ≡ k) is begins) (formed (word ∷ ts) s spelled)
 
-simple-none : (s : Stmt) → SpellsSimple [] s → ⊥
-simple-none s spelled = let form = formed [] s spelled in true≢false (sym (with_first [] s form))
-
 pub simple-empty : (ts : List Token) (s : Stmt) → length ts ≡ 0 → SpellsSimple ts s → ⊥
-simple-empty ts s none spelled = simple-none s (subst (λ ts. SpellsSimple ts s) (no_tokens-length ts none) spelled)
+simple-empty ts s none spelled = no_simple_in s (subst (λ ts. SpellsSimple ts s) (no_tokens-length ts none) spelled)
 
 pub simple-pass : (all ts : List Token) (word : Token) → all ≡ word ∷ ts → IsTrue (is_word (codes "pass") word) → (s : Stmt) → SpellsSimple all s → (ts ≡ []) × (s ≡ leaf.Pass)
 simple-pass all ts word front is s spelled =

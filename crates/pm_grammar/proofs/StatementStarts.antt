@@ -50,6 +50,10 @@ opens_statement (noted colon ts us target note first colon_is second) = by_targe
 opens_statement (noted_value colon sign ts us vs target note value first colon_is second sign_is third) = by_target ts _ target first
 opens_statement (done ts e first) = by_opens ts (opens_expression first)
 
+-- nothing is no simple statement
+pub no_simple_in : (s : Stmt) → SpellsSimple [] s → ⊥
+no_simple_in s is = false≢true (opens_statement is)
+
 -- ---- tokens that are not one another
 
 -- no header's sign or word begins a simple statement

@@ -61,7 +61,8 @@ begins_longer all rest after a b begins suffix = (
 abbrev pub GoesOnSuffixes : List Token → Expr → List Token → Type 0
 GoesOnSuffixes all a rest = (e : Expr) (left : List Token) → Begins (Spells level.Postfix) all e left → Ends level.Postfix left → (us : List Token) × (rest ≡ us ++ left) × Suffixes a us e
 
-ends_atom : (rest : List Token) → Ends level.Atom rest
+-- nothing goes on with an atom
+pub ends_atom : (rest : List Token) → Ends level.Atom rest
 ends_atom [] = tt
 ends_atom (t ∷ rest) = refl
 

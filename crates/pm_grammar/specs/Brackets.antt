@@ -8,7 +8,7 @@ use Rattle.pm_syn.specs.declared.token.Token.{Token}
 use Rattle.pm_syn.specs.declared.token.TokenKind.TheVariants as kind
 use Rattle.pm_grammar.specs.Expressions.{Spells, SpellsArgument, SpellsItems, SpellsRange, SpellsSequence}
 use Rattle.pm_grammar.specs.Marks.{is_mark, is_name, is_word}
-use Rattle.pm_grammar.specs.Reading.{Begins, IsRead}
+use Rattle.pm_grammar.specs.Reading.{Begins, IsOnlyUpTo, IsRead}
 use Rattle.pm_grammar.specs.declared.level.Level.TheVariants as level
 
 -- one token spells the expression
@@ -59,13 +59,13 @@ abbrev pub IsOnlyItems : Expr → List Token → Option (List Expr × List Token
 IsOnlyItems first tokens read =
     (others : List Expr) (closing : Token) (rest : List Token) → IsTrue (is_mark (codes "]") closing) → Begins (SpellsMore (Spells level.Conditional) true) tokens others (closing ∷ rest) → IsRead read (first ∷ others) (closing ∷ rest)
 
--- an argument ends before this token
+-- an argument or a parameter ends before this token
 abbrev pub ends_argument : Token → Bool
 ends_argument token = is_mark (codes ",") token || is_mark (codes ")") token
 
 -- each argument with which the tokens begin, up to a comma or a closing parenthesis, was read
 abbrev pub IsOnlyArgument : List Token → Option (Arg × List Token) → Type 0
-IsOnlyArgument all read = (one : Arg) (behind : Token) (rest : List Token) → IsTrue (ends_argument behind) → Begins SpellsArgument all one (behind ∷ rest) → IsRead read one (behind ∷ rest)
+IsOnlyArgument = IsOnlyUpTo SpellsArgument ends_argument
 
 -- the tokens begin with the name of a parameter and `=`, and this stands behind them
 abbrev pub IsParameter : List Token → Token → List Token → Type 0

@@ -1,5 +1,5 @@
 -- The parts of a header, as the parser reads them.
-use Rattle.std.specs.Prelude.{◌||◌, ℕ, Bool, false, IsTrue, List, [], ◌∷◌, codes, Option, Some, None}
+use Rattle.std.specs.Prelude.{ℕ, Bool, false, IsTrue, List, [], ◌∷◌, codes, Option, Some, None}
 use Rattle.pm_syn.specs.declared.expression.Expr.{Expr}
 use Rattle.pm_syn.specs.declared.statement.Par.{Par}
 use Rattle.pm_syn.specs.declared.statement.Stmt.{Stmt}
@@ -7,8 +7,9 @@ use Rattle.pm_syn.specs.declared.statement.Stmt as leaf
 use Rattle.pm_syn.specs.declared.statement.Stmt.TheViews as stmt
 use Rattle.pm_syn.specs.declared.token.Token.{Token}
 use Rattle.pm_grammar.specs.Expressions.{SpellsRange}
+use Rattle.pm_grammar.specs.Brackets.{ends_argument}
 use Rattle.pm_grammar.specs.Marks.{is_mark, is_name, is_word}
-use Rattle.pm_grammar.specs.Reading.{Begins, IsRead}
+use Rattle.pm_grammar.specs.Reading.{Begins, IsOnlyUpTo}
 use Rattle.pm_grammar.specs.Statements.{IsExpression, SpellsEnd, SpellsNames, SpellsParameter, SpellsResult, SpellsSignature, SpellsSimple}
 
 -- the mark is the only token
@@ -76,10 +77,6 @@ pub data SpellsFunctionEnd : List Token → Option Expr → Option Stmt → Type
 pub data SpellsDefinition : List Token → Stmt → Type 0 where
   definition : (name opening : Token) (ts rest : List Token) (has_self : Bool) (parameters : List Par) (result : Option Expr) (body : Option Stmt) → IsTrue (is_name name) → IsTrue (is_mark (codes "(") opening) → Begins IsSignature ts (has_self, parameters) rest → SpellsFunctionEnd rest result body → SpellsDefinition (name ∷ opening ∷ ts) (stmt.Def name.text has_self parameters result body)
 
--- a parameter ends there
-abbrev pub ends_parameter : Token → Bool
-ends_parameter token = is_mark (codes ",") token || is_mark (codes ")") token
-
--- each parameter with which the tokens begin, and that ends there, was read
+-- each parameter with which the tokens begin, up to a comma or a closing parenthesis, was read
 abbrev pub IsOnlyParameter : List Token → Option (Par × List Token) → Type 0
-IsOnlyParameter all read = (one : Par) (next : Token) (rest : List Token) → IsTrue (ends_parameter next) → Begins SpellsParameter all one (next ∷ rest) → IsRead read one (next ∷ rest)
+IsOnlyParameter = IsOnlyUpTo SpellsParameter ends_argument

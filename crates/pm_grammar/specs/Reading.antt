@@ -89,9 +89,13 @@ IsRead (Some read) one rest = (one ≡ read.0) × (rest ≡ read.1)
 abbrev pub IsOnly : Level → List Token → Option (Expr × List Token) → Type 0
 IsOnly l all read = (e : Expr) (rest : List Token) → Begins (Spells l) all e rest → Ends l rest → IsRead read e rest
 
--- each beginning that is followed by this mark was read, where it was read up to that mark
+-- each beginning that is followed by a token that passes the test was read, up to that token
+abbrev pub IsOnlyUpTo : {A : Type 0} → (List Token → A → Type 0) → (Token → Bool) → List Token → Option (A × List Token) → Type 0
+IsOnlyUpTo {A} Spelled test all read = (one : A) (next : Token) (rest : List Token) → IsTrue (test next) → Begins Spelled all one (next ∷ rest) → IsRead read one (next ∷ rest)
+
+-- each beginning that is followed by this mark was read, up to that mark
 abbrev pub IsOnlyBefore : {A : Type 0} → (List Token → A → Type 0) → List ℕ → List Token → Option (A × List Token) → Type 0
-IsOnlyBefore {A} Spelled mark all read = (one : A) (closing : Token) (rest : List Token) → IsTrue (is_mark mark closing) → Begins Spelled all one (closing ∷ rest) → IsRead read one (closing ∷ rest)
+IsOnlyBefore Spelled mark = IsOnlyUpTo Spelled (is_mark mark)
 
 -- what was read, without where its rest lies
 abbrev pub read_of : {A : Type 0} → Option (A × Bor (List Token)) → Option (A × List Token)
