@@ -18,9 +18,9 @@ keeps_read (Some bytes) new buffered taken lost =
     subst (λ (known : Option (List ℕ)). ahead (buffered ++ taken) known ≡ Some (buffered ++ bytes)) (sym lost.1) (
     ap Some (append_assoc buffered taken lost.0 ∙ ap (λ (rest : List ℕ). buffered ++ rest) (sym lost.2)))
 
--- ---- each answer, by what was told at first, what is buffered now and what the source has left
+-- ---- each result, by what was told at first, what is buffered now and what the source has left
 
--- a text with an LF behind bytes that have none
+-- a text with an LF after bytes that have none
 split_at : (bytes : List ℕ) (place : ℕ) → FindsLineEnd bytes (Some place) → bytes ≡ take place bytes ++ LF ∷ drop (place + 1) bytes
 split_at bytes place found =
     sym (take-append-drop place bytes)

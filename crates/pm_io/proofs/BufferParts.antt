@@ -1,4 +1,4 @@
--- Parts of a buffer of bytes, and where their first line end stands.
+-- Parts of a buffer of bytes, and where their first line end is.
 use Rattle.std.proofs.Common.{◌≡◌, ◌≢◌, ◌∙◌, ◌++◌, ◌+◌, ◌-◌, ◌<◌, ◌≤◌, ℕ, List, [], ◌∷◌, Option, None, Some, length, take, drop, get_or, refl, ap, sym, subst, arith}
 use Rattle.std.specs.List.{between}
 use Rattle.std.proofs.lemmas.Bool.{eqb-true, eq-eqb}
@@ -72,20 +72,20 @@ line_end_found bytes (Some place) first = (
   eqb-true _ LF first.1,
 )
 
--- the first bytes of two lists that reach into the second
+-- the first bytes of two lists, which reach into the second list
 take-into : (front back : List ℕ) (count : ℕ) → take (length front + count) (front ++ back) ≡ front ++ take count back
 take-into front back count =
     take-add (length front) count (front ++ back)
     ∙ ap (λ (first : List ℕ). first ++ take count (drop (length front) (front ++ back))) (take_at front back (length front) refl)
     ∙ ap (λ (second : List ℕ). front ++ take count second) (drop_at front back (length front) refl)
 
--- a search that goes on behind bytes with no line end
-none_behind : (front back : List ℕ) → HasNoLineEnd front → FindsLineEnd back None → FindsLineEnd (front ++ back) None
-none_behind front back clean none = All-append (λ byte. byte ≢ LF) front back clean none
+-- a search that continues after bytes with no line end
+none_after : (front back : List ℕ) → HasNoLineEnd front → FindsLineEnd back None → FindsLineEnd (front ++ back) None
+none_after front back clean none = All-append (λ byte. byte ≢ LF) front back clean none
 
-some_behind : (front back : List ℕ) (place : ℕ) → HasNoLineEnd front → FindsLineEnd back (Some place)
+some_after : (front back : List ℕ) (place : ℕ) → HasNoLineEnd front → FindsLineEnd back (Some place)
     → FindsLineEnd (front ++ back) (Some (length front + place))
-some_behind front back place clean found = (
+some_after front back place clean found = (
   omega (arith, found.0, length-append front back),
   subst HasNoLineEnd (sym (take-into front back place)) (All-append (λ byte. byte ≢ LF) front (take place back) clean found.1),
   get_or-append-add front back place 0 ∙ found.2,
@@ -96,7 +96,7 @@ pub none_between : (start scanned filled : ℕ) (bytes : List ℕ) → start ≤
     → FindsLineEnd (between scanned filled bytes) None → FindsLineEnd (between start filled bytes) None
 none_between start scanned filled bytes begun searched clean none =
     subst (λ (part : List ℕ). FindsLineEnd part None) (sym (between-between start scanned filled bytes begun searched)) (
-    none_behind (between start scanned bytes) (between scanned filled bytes) clean none)
+    none_after (between start scanned bytes) (between scanned filled bytes) clean none)
 
 pub some_between : (start scanned filled place : ℕ) (bytes : List ℕ) → start ≤ scanned → scanned ≤ filled → filled ≤ length bytes
     → HasNoLineEnd (between start scanned bytes) → FindsLineEnd (between scanned filled bytes) (Some place)
@@ -104,11 +104,11 @@ pub some_between : (start scanned filled place : ℕ) (bytes : List ℕ) → sta
 some_between start scanned filled place bytes begun searched inside clean found =
     let at : length (between start scanned bytes) + place ≡ scanned + place - start =
     omega (arith, length-between bytes start scanned (omega arith)) in
-    let behind = some_behind (between start scanned bytes) (between scanned filled bytes) place clean found in
+    let behind = some_after (between start scanned bytes) (between scanned filled bytes) place clean found in
     subst (λ (part : List ℕ). FindsLineEnd part (Some (scanned + place - start))) (sym (between-between start scanned filled bytes begun searched)) (
     subst (λ (n : ℕ). FindsLineEnd (between start scanned bytes ++ between scanned filled bytes) (Some n)) at behind)
 
--- what stands before a place that was found has no line end
+-- what comes before a line end that was found has no line end
 pub clean_before : (start filled place : ℕ) (bytes : List ℕ) → start ≤ place → FindsLineEnd (between start filled bytes) (Some (place - start))
     → filled ≤ length bytes → HasNoLineEnd (between start place bytes)
 clean_before start filled place bytes begun found inside =

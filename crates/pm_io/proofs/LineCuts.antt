@@ -19,7 +19,7 @@ IsClean line = HasNoLineEnd line.bytes
 pub lines_of-other : (byte : ℕ) (text : List ℕ) → byte ≢ LF → lines_of (byte ∷ text) ≡ put_before byte (lines_of text)
 lines_of-other byte text other = cond-false (byte == LF) _ _ (ne_eqb byte LF other)
 
--- a text whose first LF stands behind a front: the front is its first line
+-- a text whose first LF comes after a prefix: the prefix is its first line
 pub lines_of-line : (front rest : List ℕ) → HasNoLineEnd front
     → lines_of (front ++ LF ∷ rest) ≡ record { bytes = front; ended = true } ∷ lines_of rest
 lines_of-line [] rest clean = refl
@@ -66,7 +66,7 @@ first_of : (lines : List Line) (limit : ℕ) → limit < first_length lines
 first_of [] limit over = absurd (omega (arith, over))
 first_of (line ∷ lines) limit over = (line, lines, refl, over)
 
--- a text whose front has no LF and is longer than the limit: its first line is too long
+-- a text with a prefix that has no LF and is longer than the limit: its first line is too long
 pub first_too_long : (front rest : List ℕ) (limit : ℕ) → HasNoLineEnd front → limit < length front
     → (first : Line) × (others : List Line) × (lines_of (front ++ rest) ≡ first ∷ others) × (limit < length first.bytes)
 first_too_long front rest limit clean over =
@@ -88,7 +88,7 @@ without_cr-other (byte ∷ next ∷ front) last other = ap (λ (bytes : List ℕ
 
 -- ---- the lines of a text cut it
 
--- one byte more at the front of a line stands at the front of its text
+-- one more byte at the start of a line is at the start of its text
 spelled-more : (byte : ℕ) (bytes : List ℕ) (ended : Bool)
     → spelled (record { bytes = byte ∷ bytes; ended = ended }) ≡ byte ∷ spelled (record { bytes = bytes; ended = ended })
 spelled-more byte bytes true = refl

@@ -1,14 +1,14 @@
 -- What a read leaves of the pieces of a source in memory.
 use Rattle.std.proofs.Common.{◌≡◌, ℕ, zero, suc, ◌-◌, ◌<◌, ◌≤◌, nat_lt, Bool, true, false, List, [], ◌∷◌, ◌++◌, length, take, drop, slice_get, Some, None, if◌then◌else◌, refl, ap, arith, append_assoc, take-append-drop, take_all, length-drop, ltb-true, ltb-false, le-ltb}
 use Rattle.std.proofs.lemmas.Grind.{common_steps}
-use Rattle.pm_io.specs.Memory.{AreFilled, cut_front, pieces_from, first_of, joined, without_front}
+use Rattle.pm_io.specs.Memory.{AreFilled, cut_first, pieces_from, first_of, joined, left_after}
 
 -- from the start nothing is cut
-pub cut_front-zero : (pieces : List (List ℕ)) → cut_front 0 pieces ≡ pieces
-cut_front-zero [] = refl
-cut_front-zero (piece ∷ pieces) = refl
+pub cut_first-zero : (pieces : List (List ℕ)) → cut_first 0 pieces ≡ pieces
+cut_first-zero [] = refl
+cut_first-zero (piece ∷ pieces) = refl
 
--- from a place that holds an item, that item stands first
+-- from an index that holds an item, that item is first
 pub drop_at_item : {A : Type 0} (items : List A) (at : ℕ) (item : A) → slice_get items at ≡ Some item → drop at items ≡ item ∷ drop (suc at) items
 drop_at_item [] at item is = cc
 drop_at_item (first ∷ items) zero item is = ap (λ one. one ∷ items) (grind arith)
@@ -24,29 +24,29 @@ drop_at_none (first ∷ items) (suc at) is = drop_at_none items at is
 -- the pieces from a place inside of one
 pub pieces_from-item : (piece at : ℕ) (pieces : List (List ℕ)) (item : List ℕ) → slice_get pieces piece ≡ Some item
     → pieces_from piece at pieces ≡ drop at item ∷ drop (suc piece) pieces
-pieces_from-item piece at pieces item is = ap (cut_front at) (drop_at_item pieces piece item is)
+pieces_from-item piece at pieces item is = ap (cut_first at) (drop_at_item pieces piece item is)
 
--- no pieces stand behind the last
+-- there are no pieces after the last
 pub pieces_from-none : (piece at : ℕ) (pieces : List (List ℕ)) → slice_get pieces piece ≡ None → pieces_from piece at pieces ≡ []
-pieces_from-none piece at pieces is = ap (cut_front at) (drop_at_none pieces piece is)
+pieces_from-none piece at pieces is = ap (cut_first at) (drop_at_none pieces piece is)
 
--- the pieces behind the one at a place
+-- the pieces after the one at an index
 pub pieces_from-next : (piece at : ℕ) (pieces : List (List ℕ)) → pieces_from (suc piece) 0 pieces ≡ drop 1 (pieces_from piece at pieces)
 pieces_from-next zero at [] = refl
-pieces_from-next zero at (first ∷ pieces) = cut_front-zero pieces
+pieces_from-next zero at (first ∷ pieces) = cut_first-zero pieces
 pieces_from-next (suc piece) at [] = refl
 pieces_from-next (suc piece) at (first ∷ pieces) = pieces_from-next piece at pieces
 
 -- once all of the first piece was read, the others are left
-pub without_front_all : (count : ℕ) (pieces : List (List ℕ)) → length (first_of pieces) ≤ count → without_front count pieces ≡ drop 1 pieces
-without_front_all count [] past = refl
-without_front_all count (piece ∷ pieces) past = rw (le-ltb count (length piece) past) refl
+pub left_after_all : (count : ℕ) (pieces : List (List ℕ)) → length (first_of pieces) ≤ count → left_after count pieces ≡ drop 1 pieces
+left_after_all count [] past = refl
+left_after_all count (piece ∷ pieces) past = rw (le-ltb count (length piece) past) refl
 
--- what remains of filled pieces behind the first is filled
+-- what remains of filled pieces after the first is filled
 pub filled_rest : (piece : List ℕ) (pieces : List (List ℕ)) → AreFilled (piece ∷ pieces) → AreFilled pieces
 filled_rest piece pieces filled k d within = filled (suc k) d (omega arith)
 
--- filled pieces behind a filled one are filled
+-- filled pieces after a filled one are filled
 pub filled_with : (piece : List ℕ) (pieces : List (List ℕ)) → 0 < length piece → AreFilled pieces → AreFilled (piece ∷ pieces)
 filled_with piece pieces here others zero d within = here
 filled_with piece pieces here others (suc k) d within = others k d (omega arith)
@@ -61,18 +61,18 @@ within_item piece at pieces item is filled =
     omega arith
 
 -- no piece that a read leaves is empty
-pub filled-without_front : (count : ℕ) (pieces : List (List ℕ)) → AreFilled pieces → AreFilled (without_front count pieces)
-filled-without_front count [] filled = filled
-filled-without_front count (piece ∷ pieces) filled = go (nat_lt count (length piece)) refl where
+pub filled-left_after : (count : ℕ) (pieces : List (List ℕ)) → AreFilled pieces → AreFilled (left_after count pieces)
+filled-left_after count [] filled = filled
+filled-left_after count (piece ∷ pieces) filled = go (nat_lt count (length piece)) refl where
   go : (inside : Bool) → nat_lt count (length piece) ≡ inside → AreFilled (if inside then drop count piece ∷ pieces else pieces)
   go true is = filled_with (drop count piece) pieces (rw length-drop (omega (arith, ltb-true _ _ is))) (filled_rest piece pieces filled)
   go false is = filled_rest piece pieces filled
 
--- the bytes that were read stand before those that are left
-pub joined-without_front : (count : ℕ) (pieces : List (List ℕ)) → count ≤ length (first_of pieces)
-    → joined pieces ≡ take count (first_of pieces) ++ joined (without_front count pieces)
-joined-without_front count [] within = grind (arith, common_steps)
-joined-without_front count (piece ∷ pieces) within = go (nat_lt count (length piece)) refl where
+-- the bytes that were read come before the bytes that are left
+pub joined-left_after : (count : ℕ) (pieces : List (List ℕ)) → count ≤ length (first_of pieces)
+    → joined pieces ≡ take count (first_of pieces) ++ joined (left_after count pieces)
+joined-left_after count [] within = grind (arith, common_steps)
+joined-left_after count (piece ∷ pieces) within = go (nat_lt count (length piece)) refl where
   go : (inside : Bool) → nat_lt count (length piece) ≡ inside
       → joined (piece ∷ pieces) ≡ take count piece ++ joined (if inside then drop count piece ∷ pieces else pieces)
   go true is = rw (← append_assoc, take-append-drop) refl

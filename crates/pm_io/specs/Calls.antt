@@ -8,7 +8,7 @@ pub record Calls : Type 0 where
   pub fails : List ℕ
   pub faults : ℕ
 
--- one more, by a counter of 64 bits, which stays at its last value
+-- one more, in a counter of 64 bits that stops at its greatest value
 abbrev pub one_more : ℕ → ℕ
 one_more count = min (count + 1) (2 ^ 64 - 1)
 
@@ -16,7 +16,7 @@ one_more count = min (count + 1) (2 ^ 64 - 1)
 abbrev pub no_calls : List ℕ → Calls
 no_calls fails = record { made = 0; fails = fails; faults = 0 }
 
--- whether the next call is one of those that fail
+-- whether the next call is to fail
 abbrev pub next_fails : Calls → Bool
 next_fails calls = list_any (λ number. number == one_more calls.made) calls.fails
 
@@ -28,6 +28,6 @@ counted calls = record calls { made = one_more calls.made }
 abbrev pub faulted : Calls → Calls
 faulted calls = record calls { faults = one_more calls.faults }
 
--- after one more call, which failed or didn't
+-- after one more call, which failed or not
 abbrev pub called : Bool → Calls → Calls
 called failed calls = if failed then faulted (counted calls) else counted calls

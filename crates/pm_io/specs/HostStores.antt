@@ -1,4 +1,4 @@
--- What is told of a store of the host's files.
+-- What is known of a store of the host's files.
 use Rattle.std.specs.Prelude.{ℕ, List, Option}
 use Rattle.pm_io.specs.Stores.{Call}
 

@@ -1,4 +1,4 @@
--- The bytes of an object of the outside, where it tells them. Of an object that tells none (`None`) nothing is claimed.
+-- The bytes of an object of the outside, if it tells them. Nothing is claimed about an object that tells none (`None`).
 use Rattle.std.specs.Prelude.{◌≡◌, ◌++◌, ℕ, List, [], Option, None, Some}
 
 -- the bytes stay as they were
@@ -11,7 +11,7 @@ abbrev pub Grows : Option (List ℕ) → Option (List ℕ) → List ℕ → Type
 Grows None new added = Unit {0}
 Grows (Some old) new added = new ≡ Some (old ++ added)
 
--- these bytes were taken from the front
+-- these bytes were taken from the start
 abbrev pub Loses : Option (List ℕ) → Option (List ℕ) → List ℕ → Type 0
 Loses None new taken = Unit {0}
 Loses (Some old) new taken = (rest : List ℕ) × (new ≡ Some rest) × (old ≡ taken ++ rest)
@@ -21,9 +21,9 @@ abbrev pub Are : Option (List ℕ) → List ℕ → Type 0
 Are None bytes = Unit {0}
 Are (Some known) bytes = known ≡ bytes
 
--- a front of these bytes was added at the end
+-- a prefix of these bytes was added at the end
 abbrev pub GrowsByFront : Option (List ℕ) → Option (List ℕ) → List ℕ → Type 0
-GrowsByFront old new whole = (front rest : List ℕ) × (whole ≡ front ++ rest) × Grows old new front
+GrowsByFront old new whole = (prefix rest : List ℕ) × (whole ≡ prefix ++ rest) × Grows old new prefix
 
 -- nothing is left of them
 abbrev pub Empties : Option (List ℕ) → Option (List ℕ) → Type 0

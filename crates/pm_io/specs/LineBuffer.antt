@@ -10,29 +10,29 @@ use Rattle.pm_io.specs.declared.lines.TheConstants.{LF}
 use Rattle.pm_io.specs.declared.lines.LineGot.{LineGot}
 use Rattle.pm_io.specs.declared.lines.LineGot.TheVariants as got
 
--- where the parts of a buffer lie: what is buffered from `start` to `filled`, with no line end before `scanned`,
--- and the line that was given last from `line_start` to `line_end`
-pub record IsLineBuffer (limit : ℕ) (buffer : List ℕ) (start scanned filled line_start line_end : ℕ) : Type 0 where
+-- what is buffered lies from `start` to `filled`, with no line end before `scanned`; the line that was given last is the
+-- first `line_length` bytes of its own room
+pub record IsLineBuffer (limit : ℕ) (buffer : List ℕ) (start scanned filled : ℕ) (line : List ℕ) (line_length : ℕ) : Type 0 where
   pub room : length buffer ≡ limit + 1
   pub begun : start ≤ scanned
   pub searched : scanned ≤ filled
   pub inside : filled ≤ length buffer
   pub scanned_clean : HasNoLineEnd (between start scanned buffer)
-  pub line_begun : line_start ≤ line_end
-  pub line_inside : line_end ≤ length buffer
+  pub line_room : length line ≡ limit + 1
+  pub line_inside : line_length ≤ length line
 
--- where the first line end stands among the bytes, if one does
+-- the index of the first line end among the bytes, if there is one
 abbrev pub FindsLineEnd : List ℕ → Option ℕ → Type 0
 FindsLineEnd bytes None = HasNoLineEnd bytes
-FindsLineEnd bytes (Some place) = (place < length bytes) × HasNoLineEnd (take place bytes) × (slice_index bytes place ≡ LF)
+FindsLineEnd bytes (Some index) = (index < length bytes) × HasNoLineEnd (take index bytes) × (slice_index bytes index ≡ LF)
 
--- what one read does to the bytes that are buffered, and what it tells of those that the source had left, by its answer
+-- what one read does to the bytes that are buffered, and what it tells about the bytes that the source had left
 abbrev pub Fills : List ℕ → List ℕ → Option (List ℕ) → Got → Type 0
 Fills old new left (read.Bytes count) = length old < length new
 Fills old new left read.End = (new ≡ old) × Are left []
 Fills old new left read.Failed = new ≡ old
 
--- what becomes of the bytes that are buffered at the end of the source: they are the last line, unless there are none
+-- what happens to the bytes that are buffered at the end of the source: they are the last line, unless there are none
 abbrev pub Finishes : Reading → Reading → LineGot → Type 0
 Finishes old new got.Line = (old.buffered ≢ []) × (new ≡ record old { buffered = []; line = old.buffered })
 Finishes old new got.End = (old.buffered ≡ []) × (new ≡ record old { live = false })

@@ -3,12 +3,12 @@ use Rattle.std.specs.Prelude.{◌≡◌, ◌≢◌, ◌==◌, ◌++◌, ◌⊎�
 use Rattle.std.specs.List.{flat_map}
 use Rattle.pm_io.specs.declared.lines.TheConstants.{LF, CR}
 
--- a line as it stands in a text: the bytes before its line end, and whether an LF ends it
+-- a line of a text: the bytes before its line end, and whether an LF ends it
 pub record Line : Type 0 where
   pub bytes : List ℕ
   pub ended : Bool
 
--- a byte that is no LF stands at the front of the first line of what follows it
+-- a byte other than LF is the first byte of the first line of what follows it
 abbrev pub put_before : ℕ → List Line → List Line
 put_before byte [] = record { bytes = byte ∷ []; ended = false } ∷ []
 put_before byte (line ∷ lines) = record { bytes = byte ∷ line.bytes; ended = line.ended } ∷ lines
@@ -25,17 +25,17 @@ without_cr [] = []
 without_cr (byte ∷ []) = if byte == CR then [] else byte ∷ []
 without_cr (byte ∷ next ∷ bytes) = byte ∷ without_cr (next ∷ bytes)
 
--- what a line says: its bytes, without a CR that stands directly before its LF
+-- the content of a line: its bytes, without a CR directly before its LF
 abbrev pub content : Line → List ℕ
 content line = if line.ended then without_cr line.bytes else line.bytes
 
 -- ---- the law: a text is cut in one way only
 
--- the text of a line with its line end
+-- a line with its line end, as the text has it
 abbrev pub spelled : Line → List ℕ
 spelled line = if line.ended then line.bytes ++ LF ∷ [] else line.bytes
 
--- no line end stands among the bytes
+-- none of the bytes is a line end
 abbrev pub HasNoLineEnd : List ℕ → Type 0
 HasNoLineEnd bytes = All (λ byte. byte ≢ LF) bytes
 
@@ -45,7 +45,7 @@ AreEnded [] = Unit {0}
 AreEnded (line ∷ []) = (line.ended ≡ true) ⊎ (line.bytes ≢ [])
 AreEnded (line ∷ next ∷ lines) = (line.ended ≡ true) × AreEnded (next ∷ lines)
 
--- the text is these lines, one behind the other, and no line end stands inside a line
+-- the text is these lines, one after the other, and no line has a line end inside
 pub record IsCutInto (text : List ℕ) (lines : List Line) : Type 0 where
   pub joined : flat_map spelled lines ≡ text
   pub inside : All (λ line. HasNoLineEnd line.bytes) lines

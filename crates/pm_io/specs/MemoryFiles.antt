@@ -8,7 +8,7 @@ use Rattle.pm_io.specs.declared.memory_file.MemFile.{MemFile}
 abbrev pub listed_of : List MemFile → List (List ℕ × List ℕ)
 listed_of files = map (λ file. (file.name, file.bytes)) files
 
--- whether no name stands there twice
+-- whether no name occurs twice
 abbrev pub are_distinct : List (List ℕ) → Bool
 are_distinct [] = true
 are_distinct (name ∷ names) = not (list_any (bytes_eq name) names) && are_distinct names

@@ -24,7 +24,7 @@ pub record StoreHolds : Type 0 where
   pub calls : Calls
   pub last : Option Call
 
--- the files but the current one
+-- the files other than the current one
 abbrev pub others_of : Option (List ℕ) → List (List ℕ × List ℕ) → List (List ℕ × List ℕ)
 others_of None files = files
 others_of (Some name) files = filter (λ file. not (bytes_eq name file.0)) files
@@ -33,7 +33,7 @@ others_of (Some name) files = filter (λ file. not (bytes_eq name file.0)) files
 abbrev pub told : List (List ℕ × List ℕ) → Files
 told files = record { listed = files; others_empty = true }
 
--- the content of the file of a name: what was written, where the current file has it, or that of one of the others
+-- the content of the file of a name: what was written, if it is the current file, or the content of one of the others
 abbrev pub file_among : Option (List ℕ) → List ℕ → List (List ℕ × List ℕ) → List ℕ → Option (List ℕ)
 file_among current written others name = if option_map_or (bytes_eq name) current false then Some written else lookup (bytes_eq name) others
 
@@ -41,7 +41,7 @@ file_among current written others name = if option_map_or (bytes_eq name) curren
 abbrev pub file_of : StoreHolds → List ℕ → Option (List ℕ)
 file_of store name = file_among store.current store.written store.files name
 
--- the store after one more call, which failed or didn't
+-- the store after one more call, which failed or not
 abbrev pub store_called : Bool → Option Call → StoreHolds → StoreHolds
 store_called failed call store = record store { calls = called failed store.calls; last = if failed then call else store.last }
 
@@ -51,12 +51,12 @@ faulted_by call store = record store { calls = faulted store.calls; last = call 
 
 -- ---- load
 
--- what a load answers that finds a file or none
+-- what a load returns that finds a file or none
 abbrev pub loaded_by : Option (List ℕ) → ℕ → Loaded
 loaded_by None limit = loaded.Failed
 loaded_by (Some bytes) limit = if nat_lt limit (length bytes) then loaded.TooLarge else loaded.All
 
--- what a load answers where there is memory
+-- what a load returns if there is memory
 abbrev pub loaded_of : StoreHolds → List ℕ → ℕ → Loaded
 loaded_of store name limit = if next_fails store.calls then loaded.Failed else loaded_by (file_of store name) limit
 
@@ -75,17 +75,17 @@ after_create made.Done name store = record (store_called false None store) { fil
 after_create made.Failed name store = store_called true (Some (name, call.Create)) store
 after_create made.NoMemory name store = store_called false None store
 
--- what a create answers where there is memory
+-- what a create returns if there is memory
 abbrev pub made_of : StoreHolds → Made
 made_of store = if next_fails store.calls then made.Failed else made.Done
 
 -- ---- append
 
--- whether the next append fails: it is one of the calls that fail, or the piece would pass the room
+-- whether the next append fails: it is to fail, or the piece would pass the room
 abbrev pub append_fails : StoreHolds → List ℕ → Bool
 append_fails store piece = next_fails store.calls || nat_lt store.room (length store.written + length piece)
 
--- what an append answers
+-- what an append returns
 abbrev pub put_of : StoreHolds → List ℕ → Put
 put_of store piece = if append_fails store piece then put.Failed else put.All
 

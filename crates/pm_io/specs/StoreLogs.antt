@@ -6,7 +6,7 @@ use Rattle.pm_io.specs.declared.store.StoreCall.TheVariants as call
 use Rattle.pm_io.specs.declared.store_log.Fault.{Fault}
 use Rattle.pm_io.specs.declared.store_log.Fault.TheVariants as fault
 
--- what a store keeps of its current file and its faults
+-- the name of a store's current file and its last fault
 pub record Logged : Type 0 where
   pub current : Option (List ℕ)
   pub last : Option Call
@@ -22,7 +22,7 @@ last_call (fault.Load name) current = Some (name, call.Load)
 last_call (fault.Create name) current = Some (name, call.Create)
 last_call fault.Append current = append_call current
 
--- an append failed only where there is a current file
+-- an append failed only if there is a current file
 abbrev pub HasItsFile : Fault → Option (List ℕ) → Type 0
 HasItsFile fault.Never current = Unit {0}
 HasItsFile (fault.Load name) current = Unit {0}

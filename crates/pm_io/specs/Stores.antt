@@ -1,4 +1,4 @@
--- What a store of named files tells, and what its calls do to that.
+-- What a store of named files tells, and how its calls change it.
 use Rattle.std.specs.Prelude.{◌≡◌, ℕ, ◌<◌, ◌≤◌, ◌⊎◌, Bool, true, false, not, List, [], Option, None, Some, length, filter, if◌then◌else◌}
 use Rattle.std.specs.Map.{lookup}
 use Rattle.std.specs.Str.{bytes_eq}
@@ -13,38 +13,38 @@ use Rattle.pm_io.specs.declared.store.StoreCall.{StoreCall}
 
 -- ---- what is told
 
--- the files of a store but its current one, by name; the mark says whether every other name is missing or an empty file
+-- the files of a store other than its current one, by name, and whether each other name is missing or has an empty file
 pub record Files : Type 0 where
   pub listed : List (List ℕ × List ℕ)
   pub others_empty : Bool
 
--- what is told of the file at one name
+-- what is known of the file of one name
 pub data Told : Type 0 where
   nothing : Told
   content : List ℕ → Told
   missing_or_empty : Told
 
--- what is told of a file by its bytes, where they are told
+-- what is known of a file by its bytes, if they are told
 abbrev pub told_bytes : Option (List ℕ) → Told
 told_bytes None = nothing
 told_bytes (Some bytes) = content bytes
 
--- what the mark tells of a name that isn't listed
+-- what is known of a name that isn't listed
 abbrev pub told_unlisted : Bool → Told
 told_unlisted true = missing_or_empty
 told_unlisted false = nothing
 
--- what the list and the mark tell of a name
+-- what is known of a name by what is listed of it
 abbrev pub told_listed : Option (List ℕ) → Bool → Told
 told_listed (Some bytes) others_empty = content bytes
 told_listed None others_empty = told_unlisted others_empty
 
--- what a store tells of the file at a name that isn't its current file's
+-- what a store tells of the file of a name that isn't its current file's
 abbrev pub told_among : Option Files → List ℕ → Told
 told_among None name = nothing
 told_among (Some files) name = told_listed (lookup (bytes_eq name) files.listed) files.others_empty
 
--- what a store tells of the file at a name, its current file's among them
+-- what a store tells of the file of a name, which may be its current file
 abbrev pub told_of : Option Files → Option (List ℕ) → Option (List ℕ) → List ℕ → Told
 told_of files current written name =
     if option_map_or (bytes_eq name) current false then told_bytes written else told_among files name
@@ -55,19 +55,19 @@ without name files = record files { listed = filter (λ file. not (bytes_eq name
 
 -- ---- what a call does
 
--- a file with these bytes may be read there
+-- by what is known, the file may have these bytes
 abbrev pub MayHold : Told → List ℕ → Type 0
 MayHold nothing bytes = Unit {0}
 MayHold (content known) bytes = bytes ≡ known
 MayHold missing_or_empty bytes = bytes ≡ []
 
--- a file that is longer than the limit may be read there
+-- by what is known, the file may be longer than the limit
 abbrev pub MayPass : Told → ℕ → Type 0
 MayPass nothing limit = Unit {0}
 MayPass (content known) limit = limit < length known
 MayPass missing_or_empty limit = ⊥
 
--- a load gave the whole content, of at most so many bytes, or found it longer
+-- a load gave the whole content, which has at most `limit` bytes, or found that it has more
 abbrev pub Loads : Told → ℕ → List ℕ → Loaded → Type 0
 Loads told limit into loaded.All = MayHold told into × (length into ≤ limit)
 Loads told limit into loaded.TooLarge = MayPass told limit
@@ -80,12 +80,12 @@ pub record Creates (files files' : Option Files) (current' written' : Option (Li
   pub empty : Are written' []
   pub others : files' ≡ option_map (without name) files
 
--- a create that didn't succeed left no current file, and the named file as before, empty or missing
+-- a create that didn't succeed left no current file; the named file is as before, or empty, or missing
 pub record CreatesNothing (files files' : Option Files) (current' : Option (List ℕ)) (name : List ℕ) : Type 0 where
   pub no_current : current' ≡ None
   pub others : (files' ≡ files) ⊎ (files' ≡ option_map (without name) files)
 
--- what a create did, by its answer
+-- what a create did, by its result
 abbrev pub Makes : Option Files → Option Files → Option (List ℕ) → Option (List ℕ) → List ℕ → Made → Type 0
 Makes files files' current' written' name made.Done = Creates files files' current' written' name
 Makes files files' current' written' name made.Failed = CreatesNothing files files' current' name
@@ -97,7 +97,7 @@ Makes files files' current' written' name made.NoMemory = CreatesNothing files f
 abbrev pub Call : Type 0
 Call = List ℕ × StoreCall
 
--- the count and the last fault change only in a call that failed; the count has then risen, and that call is the last fault
+-- the count and the last fault change only in a call that failed; then the count has risen, and that call is the last fault
 pub record HasStoreCause (before now : ℕ) (last last' : Option Call) (failed : Type 0) (call : Call) : Type 0 where
   pub later : before ≤ now
   pub cause : failed → Rose before now × (last' ≡ Some call)

@@ -1,4 +1,4 @@
--- What the objects that never fail hold.
+-- What the objects hold that never fail.
 use Rattle.std.specs.Prelude.{ℕ, min, List, [], ◌∷◌, Option, None, Some, length, unwrap_or}
 use Rattle.pm_io.specs.MemoryStores.{file_among, others_of}
 use Rattle.pm_io.specs.declared.source.Got.{Got}
@@ -6,21 +6,21 @@ use Rattle.pm_io.specs.declared.source.Got.TheVariants as got
 use Rattle.pm_io.specs.declared.store.Made.{Made}
 use Rattle.pm_io.specs.declared.store.Made.TheVariants as made
 
--- what a read gives of the bytes that are left: as many as there is room for
+-- what a read gives of the bytes that are left: as many as fit
 abbrev pub given_of : List ℕ → ℕ → Got
 given_of [] room = got.End
 given_of (byte ∷ bytes) room = got.Bytes (min room (length (byte ∷ bytes)))
 
--- what is told of bytes that aren't kept
+-- what is told about bytes that aren't kept
 abbrev pub untold : Option (List ℕ)
 untold = None
 
--- a store that never fails: its files but the current one, and the current one's name
+-- a store that never fails: its files other than the current one, and the name of the current one
 pub record SureHolds : Type 0 where
   pub files : List (List ℕ × List ℕ)
   pub current : Option (List ℕ)
 
--- the content that a load finds at a name, which is empty where no file has it, and for the current file
+-- the content that a load finds under a name: no bytes if no file has the name, and no bytes for the current file
 abbrev pub content_of : SureHolds → List ℕ → List ℕ
 content_of store name = unwrap_or (file_among store.current [] store.files name) []
 

@@ -1,12 +1,12 @@
-//! The calls of an object in memory, which fail where it was told so.
+//! The calls of an object in memory, some of which are to fail.
 ghost use Rattle.std.specs.Prelude.{◌≡◌, ◌≤◌, List, ℕ};
 ghost use Rattle.pm_io.specs.Calls.{no_calls, next_fails, counted, faulted};
 
 use sqlite_items::Items as List;
 use std::marker::Model;
 
-/// Counts the calls of an object and those that failed, and knows by their numbers which are to fail.
-#[derive(Debug, Drop)]
+/// Counts the calls of an object and its faults, and knows the numbers of the calls that are to fail.
+#[derive(Drop)]
 pub struct CallLog {
     made: u64,
     fails: List<u64>,
@@ -32,7 +32,7 @@ impl CallLog {
         }
     }
 
-    /// Counts the call that is made now, and tells whether it is to fail.
+    /// Counts the call that is made now, and returns whether it is to fail.
     pub fn count(&mut self) -> bool
         ensures fails { result ≡ next_fails self.old }
         ensures counted { self.new ≡ counted self.old }

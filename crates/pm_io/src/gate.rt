@@ -1,13 +1,13 @@
 //! Where a worker announces the block that it claimed.
 
-/// Is told of each block that a worker is about to run. Tests use it to hold workers where they want them.
+/// Learns of each block that a worker is about to run. Tests use it to stop workers where they want them.
 pub trait Gate: Sync {
     /// A worker claimed this block and hasn't run it yet.
     fn reached(&self, block: u32);
 }
 
-/// A gate that holds nobody.
-#[derive(Clone, Copy, Debug, PartialEq, Eq)]
+/// A gate that stops no worker.
+#[derive(Clone, Copy, PartialEq, Eq)]
 pub struct FreeGate;
 
 impl Gate for FreeGate {

@@ -1,17 +1,17 @@
-//! One file of the host, read or written whole.
+//! One file of the host, read whole or created.
 ghost use Rattle.std.specs.Prelude.{◌≡◌, ◌≢◌, ◌<◌, ◌≤◌, false, [], IfOk, IfErr, vec_len};
 
-use crate::host_stream::{read_some, write_some};
+use crate::host_stream::read_some;
 use crate::store::Loaded;
 use std::alloc::AllocError;
 use std::fs;
-use std::io::{Read, Write};
+use std::io::Read;
 use std::rt::Files;
 
-// How many bytes one read asks for, and the least by which room for them grows.
+// How many bytes one read asks for, and the least by which the room grows.
 const PIECE: usize = 65536;
 
-// Makes room for another piece: as much again as is there, but none for more than `limit` bytes.
+// Makes room for another piece: doubles the room, but never takes more than `limit` bytes.
 fn make_room(into: &mut Vec<u8>, limit: usize) -> Result<(), AllocError>
     requires { vec_len into.old ≤ limit }
     ensures items { into.new.items ≡ into.old.items }
@@ -24,7 +24,7 @@ fn make_room(into: &mut Vec<u8>, limit: usize) -> Result<(), AllocError>
     Ok(())
 }
 
-// One read of a piece at the end of what is there: whether the stream is at its end, or the answer where it failed.
+// Reads a piece once and adds it to the end: whether the stream is at its end, or what the load gives if this failed.
 fn read_piece<R: Read>(stream: &mut R, limit: usize, into: &mut Vec<u8>) -> Result<bool, Loaded>
     requires { vec_len into.old < limit }
     ensures within { vec_len into.new ≤ limit }
@@ -45,7 +45,7 @@ fn read_piece<R: Read>(stream: &mut R, limit: usize, into: &mut Vec<u8>) -> Resu
     }
 }
 
-// The answer once `limit` bytes were read: whether more are there.
+// What the load gives once `limit` bytes were read: it depends on whether there are more.
 fn end_at_limit<R: Read>(stream: &mut R) -> Loaded {
     match read_some(stream, &mut [0; 1]) {
         Some(0) => Loaded::All,
@@ -54,7 +54,7 @@ fn end_at_limit<R: Read>(stream: &mut R) -> Loaded {
     }
 }
 
-// Reads a stream to its end, where it has at most `limit` bytes. No more memory is taken than for those.
+// Reads a stream to its end, if it has at most `limit` bytes. It takes no more memory than for `limit` bytes.
 fn read_to_limit<R: Read>(stream: &mut R, limit: usize, into: &mut Vec<u8>) -> Loaded
     requires { into.old.items ≡ [] }
     ensures { result ≡ Loaded.All → vec_len into.new ≤ limit }
@@ -69,7 +69,7 @@ fn read_to_limit<R: Read>(stream: &mut R, limit: usize, into: &mut Vec<u8>) -> L
     end_at_limit(stream)
 }
 
-/// Reads the file of this name whole, where it has at most `limit` bytes.
+/// Reads the whole file of this name, if it has at most `limit` bytes.
 pub fn read_file<R: Files>(rt: &R, name: &[u8], limit: usize, into: &mut Vec<u8>) -> Loaded
     requires { into.old.items ≡ [] }
     ensures { result ≡ Loaded.All → vec_len into.new ≤ limit }
@@ -83,20 +83,8 @@ pub fn read_file<R: Files>(rt: &R, name: &[u8], limit: usize, into: &mut Vec<u8>
     }
 }
 
-/// An empty file of this name, or `None` where the host refuses it.
+/// An empty file of this name, or `None` if the host refuses it.
 pub fn create_file<R: Files>(rt: &R, name: &[u8]) -> Option<R::File> {
     let path = str::from_utf8(name).ok()?;
     fs::create(rt, path).ok()
-}
-
-/// Writes a whole piece, and flushes it. It tells whether that went well.
-pub fn write_whole<W: Write>(stream: &mut W, piece: &[u8]) -> bool {
-    let mut taken: usize = 0;
-    while taken < piece.len() {
-        match write_some(stream, &piece[taken..]) {
-            Some(count) if count > 0 => taken += count,
-            _ => return false,
-        }
-    }
-    stream.flush().is_ok()
 }

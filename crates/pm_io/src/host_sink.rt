@@ -6,12 +6,12 @@ use crate::sink::{Sink, Took};
 use std::io::Write;
 use std::marker::Model;
 
-/// A sink over a stream of the host, as standard output.
+/// A sink over a stream of the host, such as standard output.
 ///
-/// Nothing is proved of the bytes that reach the host. Each write is flushed, so that nothing is lost where the
-/// program ends, also over a stream with a buffer of its own; a write whose flush fails counts as one that failed. A
-/// write that is interrupted is made again, up to a fixed number of times, and each other error counts as a fault.
-/// Contracts see the object as the count of its faults.
+/// Nothing is proved about the bytes that reach the host. Each write is flushed, so nothing is lost when the program
+/// ends, even over a stream with its own buffer. A write whose flush fails counts as a write that failed. A write that
+/// is interrupted is made again, up to a fixed number of times; each other error counts as a fault. Contracts see the
+/// object as the count of its faults.
 #[derive(Drop)]
 pub struct HostSink<W> {
     stream: W,

@@ -8,10 +8,10 @@ use crate::source::{Got, Source};
 use std::io::Read;
 use std::marker::Model;
 
-/// A source over a stream of the host, as standard input.
+/// A source over a stream of the host, such as standard input.
 ///
-/// Nothing is proved of the bytes that it gives. A read that is interrupted is made again, up to a fixed number of
-/// times, and each other error counts as a fault. Contracts see the object as the count of its faults.
+/// Nothing is proved about the bytes that it gives. A read that is interrupted is made again, up to a fixed number of
+/// times; each other error counts as a fault. Contracts see the object as the count of its faults.
 #[derive(Drop)]
 pub struct HostSource<R> {
     stream: R,

@@ -1,8 +1,9 @@
 //! The host's files as a store.
 ghost use Rattle.std.specs.Prelude.{◌≡◌, None};
 
-use crate::host_file::{create_file, read_file, write_whole};
-use crate::sink::Put;
+use crate::host_file::{create_file, read_file};
+use crate::host_sink::HostSink;
+use crate::sink::{Put, put_all};
 use crate::store::{Loaded, Made, Store};
 use crate::store_log::StoreLog;
 use crate::text::Text;
@@ -10,16 +11,16 @@ use std::alloc::Global;
 use std::marker::Model;
 use std::rt::Files;
 
-/// A store over the host's files. A name that isn't UTF-8 is one of no file.
+/// A store over the host's files. No file has a name that isn't UTF-8.
 ///
-/// Nothing is proved of what the host reads and writes. A read or write that is interrupted is made again, up to a
-/// fixed number of times, and each other error counts as a fault.
+/// Nothing is proved about what the host reads and writes. A read or write that is interrupted is made again, up to a
+/// fixed number of times; each other error counts as a fault.
 #[derive(Drop)]
 pub struct HostStore<'a, R: Files> {
     rt: &'a R,
     alloc: Global,
     log: StoreLog,
-    file: Option<R::File>,
+    file: Option<HostSink<R::File>>,
     faults: u64,
 }
 
@@ -78,7 +79,7 @@ impl<'a, R: Files> Store for HostStore<'a, R> {
         };
         match create_file(self.rt, name) {
             Some(file) => {
-                self.file = Some(file);
+                self.file = Some(HostSink::new(file));
                 self.log.created(owned);
                 Made::Done
             }
@@ -92,7 +93,7 @@ impl<'a, R: Files> Store for HostStore<'a, R> {
 
     fn append(&mut self, piece: &[u8]) -> Put {
         if let Some(file) = &mut self.file {
-            if write_whole(file, piece) {
+            if put_all(file, piece) == Put::All {
                 return Put::All;
             }
         }

@@ -1,11 +1,12 @@
 //! The outside of the program: what it reads from, what it writes to, and the files that it names.
 //!
-//! The rest of the program reads a `Source`, writes to a `Sink` and loads from a `Store`, and knows nothing else of
-//! streams and files. Each object tells contracts what it holds, where it can, and counts its faults: a call answers
-//! that it failed only where that count has risen. `Lines` cuts a source into lines, and `put_all` writes a whole
-//! piece or, after a failure, a front of it.
+//! The rest of the program reads a `Source`, writes to a `Sink` and loads from a `Store`, and knows nothing else about
+//! streams and files. Each object tells contracts what it holds, if it can, and counts its faults: a call returns that
+//! it failed only if that count has risen. `Lines` cuts a source into lines, and `put_all` writes a whole piece or,
+//! after a failure, a prefix of it. `Text`, `List`, `Boxed` and `Stack` are what the trees of other crates are made of.
 #![tactic(auto)]
 
+mod buffer;
 mod calls;
 mod gate;
 mod host_file;
@@ -13,25 +14,18 @@ mod host_sink;
 mod host_source;
 mod host_store;
 mod host_stream;
-#[cfg(test)]
-mod host_tests;
 mod lines;
 mod memory_file;
 mod memory_sink;
 mod memory_source;
 mod memory_store;
-#[cfg(test)]
-mod memory_tests;
 mod no_memory;
 mod sink;
 mod source;
+mod stack;
 mod store;
 mod store_log;
 mod sure;
-#[cfg(test)]
-mod sure_tests;
-#[cfg(test)]
-mod tests_lines;
 mod text;
 mod write_buffer;
 
@@ -48,6 +42,7 @@ pub use no_memory::NoMemory;
 pub use sink::{Put, Sink, Took, put_all};
 pub use source::{Got, Source};
 pub use sqlite_items::{Boxed, Items as List};
+pub use stack::Stack;
 pub use store::{Loaded, Made, Store, StoreCall};
 pub use sure::{SureSink, SureSource, SureStore};
 pub use text::Text;

@@ -6,8 +6,8 @@ ghost use Rattle.pm_io.specs.MemoryFiles.{listed_of};
 
 use crate::text::Text;
 
-/// A file by name.
-#[derive(Debug, Drop)]
+/// A file with its name.
+#[derive(Drop)]
 pub struct MemFile {
     pub name: Text,
     pub bytes: Text,

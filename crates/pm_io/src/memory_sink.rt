@@ -12,8 +12,8 @@ use sqlite_items::Items as List;
 use std::alloc::Global;
 use std::marker::Model;
 
-/// A sink that holds what was written, up to a fixed capacity, and fails at the calls that it was told.
-#[derive(Debug, Drop)]
+/// A sink that holds what was written, up to a fixed capacity, and fails at the calls that it is told to fail at.
+#[derive(Drop)]
 pub struct MemSink {
     held: Vec<u8>,
     capacity: usize,
@@ -33,8 +33,8 @@ impl Model for MemSink {
 }
 
 impl MemSink {
-    /// A sink for so many bytes, the room for which it takes now. A write takes at most `most` bytes, and the calls
-    /// of these numbers fail, counted from 1.
+    /// A sink for `capacity` bytes. It takes the memory for them now. A write takes at most `most` bytes, and the calls
+    /// with these numbers fail, counted from 1.
     pub fn new(
         alloc: Global,
         capacity: usize,
@@ -73,7 +73,7 @@ impl Sink for MemSink {
         ensures bytes { Writes (Some self.old.held) (Some self.new.held) piece.now result }
         ensures cause { HasCause self.old.calls.faults self.new.calls.faults (result ≡ Took.Failed) }
 
-        // It takes as much as one write may, or fails where it was told or where that passes the capacity.
+        // It takes as much as one write may. It fails when told to, and when that would pass the capacity.
         ensures answer { result ≡ took_of self.old piece.now }
         ensures sink { self.new ≡ after_write self.old piece.now }
     {

@@ -21,10 +21,10 @@ use sqlite_items::Items as List;
 use std::alloc::Global;
 use std::marker::Model;
 
-/// A store of files in memory, with room for one that is created. It fails at the calls that it was told.
+/// A store of files in memory, with room for one that is created. It fails at the calls that it is told to fail at.
 ///
-/// A file that the created one takes the place of stays in memory, where no call sees it.
-#[derive(Debug, Drop)]
+/// A file that the created one replaces stays in memory, where no call sees it.
+#[derive(Drop)]
 pub struct MemStore {
     alloc: Global,
     files: List<MemFile>,
@@ -55,7 +55,7 @@ impl Model for MemStore {
     ghost invariant = { λ s. (length s.written.items ≤ s.room) × (s.room ≤ vec_capacity s.written) × (s.log.current ≡ None → s.written.items ≡ []) };
 }
 
-/// The content of the file of a name, the current one among them.
+/// The content of the file of this name, which may be the current one.
 #[tactic(auto, using(crate::proofs::MemoryFiles::others_found))]
 pub fn find_file<'a>(
     log: &StoreLog,
@@ -72,7 +72,7 @@ pub fn find_file<'a>(
     }
 }
 
-/// Gives the bytes of a file, if they are few enough.
+/// Copies the bytes of a file, if there are at most `limit`.
 pub fn load_bytes(bytes: &[u8], limit: usize, into: &mut Vec<u8>) -> Loaded
     requires { into.old.items ≡ [] }
     ensures content { result ≡ Loaded.All → into.new.items ≡ bytes.now }
@@ -88,8 +88,8 @@ pub fn load_bytes(bytes: &[u8], limit: usize, into: &mut Vec<u8>) -> Loaded
 }
 
 impl MemStore {
-    /// A store of these files, with no current file yet. It takes now the room for the one that is created, so many
-    /// bytes, and the calls of these numbers fail, loads, creates and appends counted together, from 1.
+    /// A store of these files, with no current file yet. It takes the memory for the one that is created now: `room`
+    /// bytes. The calls with these numbers fail; loads, creates and appends are counted together, from 1.
     pub fn new(
         alloc: Global,
         files: List<MemFile>,
@@ -114,14 +114,14 @@ impl MemStore {
         })
     }
 
-    /// The content of the file of this name, the current one among them.
+    /// The content of the file of this name, which may be the current one.
     pub fn file(&self, name: &[u8]) -> Option<&[u8]>
         ensures { option_copied result ≡ file_of self.now name.now }
     {
         find_file(&self.log, &self.written, self.files.as_slice(), name)
     }
 
-    // Counts the load that is made as a fault and notes it, if there is memory for its name.
+    // Counts this load as a fault and records it, if there is memory for its name.
     fn fail_load(&mut self, name: &[u8]) -> Loaded
         ensures answer { (result ≡ Loaded.NoMemory) ⊎ (result ≡ Loaded.Failed) }
         ensures later { self.old.calls.faults ≤ self.new.calls.faults }
@@ -155,7 +155,7 @@ impl Store for MemStore {
         ensures cause { HasStoreCause self.old.calls.faults self.new.calls.faults self.old.last self.new.last
             (result ≡ Loaded.Failed) (name.now, StoreCall.Load) }
 
-        // Where there is memory it fails where it was told and where no file has the name, and finds the others.
+        // If there is memory, it fails when told to and when no file has the name, and only then.
         ensures answer { (result ≡ Loaded.NoMemory) ⊎ (result ≡ loaded_of self.old name.now limit) }
         ensures store { self.new ≡ store_called (load_failed result) (Some (name.now, StoreCall.Load)) self.old }
     {
@@ -175,7 +175,7 @@ impl Store for MemStore {
         ensures cause { HasStoreCause self.old.calls.faults self.new.calls.faults self.old.last self.new.last
             (result ≡ Made.Failed) (name.now, StoreCall.Create) }
 
-        // Where there is memory it fails only where it was told.
+        // If there is memory, it fails when told to, and only then.
         ensures answer { (result ≡ Made.NoMemory) ⊎ (result ≡ made_of self.old) }
         ensures store { self.new ≡ after_create result name.now self.old }
     {
@@ -202,7 +202,7 @@ impl Store for MemStore {
             HasStoreCause self.old.calls.faults self.new.calls.faults self.old.last self.new.last
             (result ≡ Put.Failed) (name, StoreCall.Append)) }
 
-        // It fails where it was told, and where the piece would pass the room, and adds nothing then.
+        // It fails when told to and when the piece would pass the room, and then adds nothing.
         ensures answer { result ≡ put_of self.old piece.now }
         ensures store { self.new ≡ after_append self.old piece.now }
     {

@@ -1,11 +1,11 @@
-//! The answer of a call that ran out of memory.
+//! The error of a call that ran out of memory.
 ghost use Rattle.std.specs.Prelude.{◌≡◌};
 
 use std::alloc::{AllocError, AllocFailed};
 use std::error::Error;
 use std::fmt;
 
-/// Memory ran out. No call says anything else by it.
+/// Memory ran out. No call means anything else by it.
 #[derive(Clone, Copy, Debug, PartialEq, Eq)]
 pub struct NoMemory;
 

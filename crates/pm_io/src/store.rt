@@ -6,59 +6,59 @@ ghost use Rattle.pm_io.specs.Streams.{Puts};
 use crate::sink::Put;
 
 /// What a load gave.
-#[derive(Clone, Copy, Debug, PartialEq, Eq)]
+#[derive(Clone, Copy, PartialEq, Eq)]
 pub enum Loaded {
     /// The whole content.
     All,
     /// The content is longer than the limit.
     TooLarge,
-    /// The file is missing, or couldn't be read.
+    /// The file is missing or couldn't be read.
     Failed,
     /// Memory ran out.
     NoMemory,
 }
 
-/// What became of a file that was to be created.
-#[derive(Clone, Copy, Debug, PartialEq, Eq)]
+/// What a create did.
+#[derive(Clone, Copy, PartialEq, Eq)]
 pub enum Made {
-    /// It is there, empty, and the store's current file.
+    /// The file is there, empty, and is the store's current file.
     Done,
-    /// It couldn't be created.
+    /// The file couldn't be created.
     Failed,
     /// Memory ran out.
     NoMemory,
 }
 
 /// The calls of a store that may fail.
-#[derive(Clone, Copy, Debug, PartialEq, Eq)]
+#[derive(Clone, Copy, PartialEq, Eq)]
 pub enum StoreCall {
     Load,
     Create,
     Append,
 }
 
-/// A set of files by name, as a file system. A name is a list of bytes.
+/// A set of files by name, like a file system. A name is a list of bytes.
 pub trait Store {
     ghost use Rattle.std.specs.Prelude.{List, Option, ℕ};
     ghost use Rattle.pm_io.specs.Stores.{Call, Files};
 
-    /// The files but the current one, where it tells them.
+    /// The files other than the current one, if the store tells them.
     ghost files: { Self → Option Files };
 
-    /// The name of the current file, the one that was created, if there is one.
+    /// The name of the current file, which is the one that was created, if there is one.
     ghost current: { Self → Option (List ℕ) };
 
-    /// The bytes of the current file, where it tells them.
+    /// The bytes of the current file, if the store tells them.
     ghost written: { Self → Option (List ℕ) };
 
-    /// The last call that failed, with the name of its file.
+    /// The last call that failed, and the name of its file.
     ghost last_fault: { Self → Option Call };
 
     /// How often a call has failed. The count never falls.
     ghost faults: { Self → ℕ };
 
-    /// Reads the file of this name whole, where it has at most `limit` bytes. `into` is emptied first;
-    /// unless the answer is `All`, nothing is said of what it holds then.
+    /// Reads the whole file of this name, if it has at most `limit` bytes. `into` is emptied first. Unless the result is
+    /// `All`, nothing is said about what it holds afterwards.
     fn load(&mut self, name: &[u8], limit: usize, into: &mut Vec<u8>) -> Loaded
         ensures content { Loads (told_of (files self.old) (current self.old) (written self.old) name.now) limit into.new.items result }
         ensures files { files self.new ≡ files self.old }
@@ -67,14 +67,14 @@ pub trait Store {
         ensures cause { HasStoreCause (faults self.old) (faults self.new) (last_fault self.old) (last_fault self.new)
             (result ≡ Loaded.Failed) (name.now, StoreCall.Load) };
 
-    /// Makes an empty file of this name the current file, which it stays for good.
+    /// Makes an empty file of this name, which is the current file from then on.
     fn create(&mut self, name: &[u8]) -> Made
         requires { current self.old ≡ None }
         ensures file { Makes (files self.old) (files self.new) (current self.new) (written self.new) name.now result }
         ensures cause { HasStoreCause (faults self.old) (faults self.new) (last_fault self.old) (last_fault self.new)
             (result ≡ Made.Failed) (name.now, StoreCall.Create) };
 
-    /// Adds the piece at the end of the current file.
+    /// Adds the piece to the end of the current file.
     fn append(&mut self, piece: &[u8]) -> Put
         requires current { IsSome (current self.old) }
         requires some { 0 < length piece.now }

@@ -1,4 +1,4 @@
-//! What each store keeps beside its files: the name of the current one, and the last call that failed.
+//! What each store keeps besides its files: the name of the current one, and the last call that failed.
 ghost use Rattle.std.specs.Prelude.{◌≡◌, false, None, Some, IsSome};
 ghost use Rattle.std.specs.Option.{option_map_or};
 ghost use Rattle.std.specs.Str.{bytes_eq};
@@ -8,8 +8,8 @@ ghost use Rattle.pm_io.specs.declared.store.StoreCall.{StoreCall};
 use crate::text::Text;
 use std::marker::Model;
 
-// The last fault. That of an append is the current file's, so that an append needs no memory to note it.
-#[derive(Debug, Drop)]
+// The last fault. One by an append is at the current file, so an append needs no memory to record it.
+#[derive(Drop)]
 enum Fault {
     Never,
     Load(Text),
@@ -18,7 +18,7 @@ enum Fault {
 }
 
 /// The name of a store's current file, if there is one, and its last fault, if there was one.
-#[derive(Debug, Drop)]
+#[derive(Drop)]
 pub struct StoreLog {
     current: Option<Text>,
     fault: Fault,
@@ -55,7 +55,7 @@ impl StoreLog {
         }
     }
 
-    /// Notes the file that was created.
+    /// Records the file that was created.
     pub fn created(&mut self, name: Text)
         requires { self.old.current ≡ None }
         ensures current { self.new.current ≡ Some name }
@@ -64,7 +64,7 @@ impl StoreLog {
         self.current = Some(name);
     }
 
-    /// Notes a load that failed.
+    /// Records a load that failed.
     pub fn load_failed(&mut self, name: Text)
         ensures current { self.new.current ≡ self.old.current }
         ensures last { self.new.last ≡ Some (name, StoreCall.Load) }
@@ -72,7 +72,7 @@ impl StoreLog {
         self.fault = Fault::Load(name);
     }
 
-    /// Notes a create that failed.
+    /// Records a create that failed.
     pub fn create_failed(&mut self, name: Text)
         ensures current { self.new.current ≡ self.old.current }
         ensures last { self.new.last ≡ Some (name, StoreCall.Create) }
@@ -80,7 +80,7 @@ impl StoreLog {
         self.fault = Fault::Create(name);
     }
 
-    /// Notes an append to the current file that failed.
+    /// Records an append to the current file that failed.
     pub fn append_failed(&mut self)
         requires { IsSome self.old.current }
         ensures current { self.new.current ≡ self.old.current }

@@ -1,4 +1,4 @@
-//! Objects of the outside that never fail, for programs that are asked what they do where nothing goes wrong.
+//! Objects of the outside that never fail, to state what a program does when nothing goes wrong.
 ghost use Rattle.std.specs.Prelude.{◌≡◌, ◌≢◌, ◌<◌, ◌⊎◌, None, Some, IsSome, IfSome, length};
 ghost use Rattle.pm_io.specs.Causes.{HasCause};
 ghost use Rattle.pm_io.specs.MemoryFiles.{listed_of, NamesDiffer};
@@ -7,8 +7,8 @@ ghost use Rattle.pm_io.specs.Stores.{HasStoreCause, Loads, Makes, told_of};
 ghost use Rattle.pm_io.specs.Streams.{Reads, Writes, Puts};
 ghost use Rattle.pm_io.specs.Sure.{given_of, content_of, created_by, untold};
 
+use crate::buffer::fill;
 use crate::memory_file::MemFile;
-use crate::memory_source::fill;
 use crate::memory_store::{find_file, load_bytes};
 use crate::sink::{Put, Sink, Took};
 use crate::source::{Got, Source};
@@ -19,8 +19,8 @@ use sqlite_items::Items as List;
 use std::alloc::Global;
 use std::marker::Model;
 
-/// A source that gives the bytes that it was made of, and never fails. Contracts see it as those that are left.
-#[derive(Debug, Drop)]
+/// A source that gives the bytes that it was made of, and never fails. Contracts see it as the bytes that are left.
+#[derive(Drop)]
 pub struct SureSource {
     bytes: Text,
     at: usize,
@@ -66,8 +66,8 @@ impl Source for SureSource {
     }
 }
 
-/// A sink that takes every piece whole, keeps nothing, tells nothing and never fails.
-#[derive(Clone, Copy, Debug)]
+/// A sink that takes each piece whole, keeps nothing, tells nothing and never fails.
+#[derive(Clone, Copy)]
 pub struct SureSink;
 
 impl SureSink {
@@ -92,9 +92,9 @@ impl Sink for SureSink {
     }
 }
 
-/// A store that never fails: it has the files that it was made of, and each other name is that of an empty file. It
-/// keeps the name of its current file, and nothing of its content.
-#[derive(Debug, Drop)]
+/// A store that never fails. It has the files that it was made of, and each other name has an empty file. It keeps the
+/// name of its current file and none of its content, so that a load finds that file empty.
+#[derive(Drop)]
 pub struct SureStore {
     alloc: Global,
     files: List<MemFile>,
@@ -145,6 +145,7 @@ impl Store for SureStore {
         ensures written { untold ≡ untold }
         ensures cause { HasStoreCause 0 0 None None (result ≡ Loaded.Failed) (name.now, StoreCall.Load) }
         ensures answer { (result ≡ Loaded.NoMemory) ⊎ (result ≡ loaded_by (Some (content_of self.old name.now)) limit) }
+        ensures bytes { result ≡ Loaded.All → into.new.items ≡ content_of self.old name.now }
     {
         into.clear();
         match find_file(&self.log, &[], self.files.as_slice(), name) {

@@ -1,11 +1,11 @@
-//! Bytes that are owned.
+//! Owned bytes.
 ghost use Rattle.std.specs.Prelude.{◌≡◌, List, ℕ, length, IsTrue, ◌↔◌, [], IfOk};
 
 use crate::no_memory::NoMemory;
 use std::alloc::Global;
 use std::marker::Model;
 
-/// A list of bytes that is owned, as a name or a message. It needn't be UTF-8.
+/// An owned list of bytes, such as a name or a message. It needn't be UTF-8.
 #[derive(Debug, Drop)]
 pub struct Text {
     bytes: Vec<u8>,

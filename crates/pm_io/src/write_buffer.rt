@@ -1,16 +1,17 @@
-//! Bytes that wait, so that a line made of many small pieces goes to its sink by one write.
+//! Bytes that wait, so that a line made of many small pieces reaches its sink in one write.
 ghost use Rattle.std.specs.Prelude.{◌≡◌, ◌+◌, ◌≤◌, ◌++◌, List, [], ℕ, length, take, IsTrue, ◌↔◌};
 ghost use Rattle.pm_io.specs.Causes.{HasCause};
 ghost use Rattle.pm_io.specs.Buffering.{Queues, Flushes};
 ghost use Rattle.pm_io.specs.declared.write_buffer.TheConstants.{ROOM};
 
 use crate::sink::{Put, Sink, put_all};
+use crate::try_put;
 use std::marker::Model;
 
 /// How many bytes a buffer of writes can hold.
 const ROOM: usize = 4096;
 
-/// Bytes that wait to be written to a sink. It takes no memory but its own.
+/// Bytes that wait to be written to a sink. It allocates nothing.
 #[derive(Drop)]
 pub struct WriteBuffer {
     bytes: [u8; ROOM],
@@ -36,8 +37,8 @@ impl WriteBuffer {
         }
     }
 
-    /// Puts a piece behind the bytes that wait. Where there is no room for it, those are written first. After a failure
-    /// nothing waits, so that no byte is written twice.
+    /// Adds a piece after the bytes that wait. If there is no room for it, they are written first. After a failure
+    /// nothing waits, so no byte is written twice.
     pub fn put<K: Sink>(&mut self, sink: &mut K, piece: &[u8]) -> Put
         ensures bytes { Queues (K.held sink.old) (K.held sink.new) self.old self.new piece.now result }
         ensures dropped { result ≡ Put.Failed → self.new ≡ [] }
@@ -47,13 +48,11 @@ impl WriteBuffer {
             self.keep(piece);
             return Put::All;
         }
-        match self.flush(sink) {
-            Put::Failed => Put::Failed,
-            Put::All => self.put_first(sink, piece),
-        }
+        try_put!(self.flush(sink));
+        self.put_first(sink, piece)
     }
 
-    /// Writes the bytes that wait. After a failure nothing waits either.
+    /// Writes the bytes that wait. Nothing waits afterwards, even after a failure.
     pub fn flush<K: Sink>(&mut self, sink: &mut K) -> Put
         ensures bytes { Flushes (K.held sink.old) (K.held sink.new) self.old self.new result }
         ensures dropped { result ≡ Put.Failed → self.new ≡ [] }
@@ -64,7 +63,7 @@ impl WriteBuffer {
         written
     }
 
-    // Puts a piece where nothing waits.
+    // Adds a piece when nothing waits.
     fn put_first<K: Sink>(&mut self, sink: &mut K, piece: &[u8]) -> Put
         requires { self.old ≡ [] }
         ensures bytes { Queues (K.held sink.old) (K.held sink.new) self.old self.new piece.now result }

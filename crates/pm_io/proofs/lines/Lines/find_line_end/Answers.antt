@@ -49,7 +49,7 @@ invariant_of-self c =
       inside = holds.inside;
       scanned_clean =
           clean_before inside.start inside.filled place inside.buffer.items (omega (arith, holds.begun)) found holds.inside;
-      line_begun = holds.line_begun;
+      line_room = holds.line_room;
       line_inside = holds.line_inside;
     }
 
@@ -62,6 +62,6 @@ invariant_of-self-in-None c =
       searched = omega arith;
       inside = holds.inside;
       scanned_clean = found_none c;
-      line_begun = holds.line_begun;
+      line_room = holds.line_room;
       line_inside = holds.line_inside;
     }

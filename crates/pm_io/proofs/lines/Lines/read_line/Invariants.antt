@@ -9,6 +9,7 @@ abbrev pub invariant-loop-self : goal.invariant-loop-self
 invariant-loop-self g l = record {
   live : l.self.live ≡ true;
   limit : l.self.limit ≡ l.fn.self.limit;
+  line : l.self.line ≡ l.fn.self.line;
   clean : HasNoLineEnd l.self.buffered;
   kept : Keeps (ahead l.fn.self.buffered (g.S.Source.left l.fn.source)) (ahead l.self.buffered (g.S.Source.left l.source));
   later : g.S.Source.faults l.fn.source ≤ g.S.Source.faults l.source;

@@ -1,10 +1,10 @@
 use Rattle.std.proofs.Common.{◌<◌, ◌≤◌, length, refl, arith}
 use Rattle.pm_io.specs.Memory.{first_of, pieces_from, joined}
-use Rattle.pm_io.proofs.Pieces.{filled-without_front, joined-without_front}
+use Rattle.pm_io.proofs.Pieces.{filled-left_after, joined-left_after}
 use Rattle.pm_io.proofs.memory_source.MemSourceSource.read.Goals as goal
 
 pub invariant_of-self-2 : goal.invariant_of-self-2
-invariant_of-self-2 c = rw c.place_after-piece.ensures (filled-without_front _ _ c.self.invariant)
+invariant_of-self-2 c = rw c.position_after-piece.ensures (filled-left_after _ _ c.self.invariant)
 
 pub returns-clause-bytes : goal.returns-clause-bytes
 returns-clause-bytes c =
@@ -14,9 +14,9 @@ returns-clause-bytes c =
       omega arith,
       omega arith,
       (
-        joined (pieces_from c.place_after-piece.result.0 c.place_after-piece.result.1 c.self.inside.pieces),
+        joined (pieces_from c.position_after-piece.result.0 c.position_after-piece.result.1 c.self.inside.pieces),
         refl,
-        rw (← c.self.view_is, c.place_after-piece.ensures, c.fill-count.ensures.bytes, c.rest_of-rest.ensures.bytes)
-            (joined-without_front c.fill-count.result left within),
+        rw (← c.self.view_is, c.position_after-piece.ensures, c.fill-count.ensures.bytes, c.rest_of-rest.ensures.bytes)
+            (joined-left_after c.fill-count.result left within),
       ),
     )

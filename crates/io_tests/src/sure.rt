@@ -2,13 +2,12 @@
 ghost use Rattle.std.specs.Prelude.{◌≡◌, ◌<◌, ◌⊎◌, true, length};
 ghost use Rattle.pm_io.specs.Causes.{Rose};
 
-use crate::{
-    Got, List, Loaded, Made, MemFile, Put, Sink, Source, Store, SureSink, SureSource, SureStore,
-    Text, put_all,
+use crate::fixtures::{file, text};
+use pm_io::{
+    Got, List, Loaded, Made, Put, Sink, Source, Store, SureSink, SureSource, SureStore, put_all,
 };
-use std::test::Fail;
 
-#[derive(Clone, Copy, Debug, PartialEq, Eq)]
+#[derive(Clone, Copy, PartialEq, Eq)]
 enum Copied {
     Some,
     All,
@@ -39,34 +38,30 @@ fn load_fails<S: Store>(store: &mut S, name: &[u8], into: &mut Vec<u8>) -> bool
 }
 
 #[test]
-fn sure_copies_never_fail(rt: HostRuntime) -> Result<(), Fail> {
-    let mut source = SureSource::new(Text::from_slice(rt.alloc(), b"abc")?);
+fn copies_never_fail(rt: HostRuntime) {
+    let mut source = SureSource::new(text(&rt, rt.alloc(), b"abc"));
     let mut sink = SureSink::new();
     let mut buffer = [0; 2];
     for answer in [Copied::Some, Copied::Some, Copied::All] {
         let copied = copy_piece(&mut source, &mut sink, &mut buffer);
         let failed = copied == Copied::Failed;
         prove!(!failed);
-        assert_eq!(rt; copied, answer);
+        assert!(rt; copied == answer);
     }
-    assert_eq!(rt; buffer, *b"cb");
-    Ok(())
+    assert!(rt; buffer == *b"cb");
 }
 
 #[test]
-fn sure_loads_never_fail(rt: HostRuntime) -> Result<(), Fail> {
-    let name = Text::from_slice(rt.alloc(), b"a")?;
-    let bytes = Text::from_slice(rt.alloc(), b"xyz")?;
-    let files = List::from_vec(vec![in rt.alloc(); MemFile { name, bytes }]?);
-    let mut store = SureStore::new(rt.alloc(), files);
+fn loads_never_fail(rt: HostRuntime) {
+    let files = vec![in rt.alloc(); file(&rt, rt.alloc(), b"a", b"xyz")].expect(&rt, "memory");
+    let mut store = SureStore::new(rt.alloc(), List::from_vec(files));
     let mut into = Vec::new(rt.alloc());
     let failed = load_fails(&mut store, b"a", &mut into);
     prove!(!failed);
-    assert_eq!(rt; into.as_slice(), b"xyz".as_slice());
-    assert_eq!(rt; store.load(b"a", 2, &mut into), Loaded::TooLarge);
-    assert_eq!(rt; store.load(b"b", 2, &mut into), Loaded::All);
-    assert_eq!(rt; into.as_slice(), b"".as_slice());
-    assert_eq!(rt; store.create(b"a"), Made::Done);
-    assert_eq!(rt; store.append(b"new"), Put::All);
-    Ok(())
+    assert!(rt; into.as_slice() == b"xyz".as_slice());
+    assert!(rt; store.load(b"a", 2, &mut into) == Loaded::TooLarge);
+    assert!(rt; store.load(b"b", 2, &mut into) == Loaded::All);
+    assert!(rt; into.is_empty());
+    assert!(rt; store.create(b"a") == Made::Done);
+    assert!(rt; store.append(b"new") == Put::All);
 }

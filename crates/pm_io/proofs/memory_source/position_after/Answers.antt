@@ -1,7 +1,7 @@
 use Rattle.std.proofs.Common.{◌∙◌, ◌<◌, ◌≤◌, length, sym, arith, add-one}
 use Rattle.pm_io.specs.Memory.{first_of, pieces_from}
-use Rattle.pm_io.proofs.Pieces.{pieces_from-next, without_front_all}
-use Rattle.pm_io.proofs.memory_source.place_after.Goals as goal
+use Rattle.pm_io.proofs.Pieces.{pieces_from-next, left_after_all}
+use Rattle.pm_io.proofs.memory_source.position_after.Goals as goal
 
 pub prove-unreachable-requires : goal.prove-unreachable-requires
 prove-unreachable-requires c =
@@ -11,4 +11,4 @@ prove-unreachable-requires c =
 pub returns-else-count-rest : goal.returns-else-count-rest
 returns-else-count-rest c =
     let past : length (first_of (pieces_from c.args.piece c.args.at c.args.pieces.now)) ≤ c.args.count = rw c.rest_of-rest.ensures.bytes at c.if-count-rest.false in
-    rw add-one (pieces_from-next c.args.piece c.args.at c.args.pieces.now ∙ sym (without_front_all c.args.count (pieces_from c.args.piece c.args.at c.args.pieces.now) past))
+    rw add-one (pieces_from-next c.args.piece c.args.at c.args.pieces.now ∙ sym (left_after_all c.args.count (pieces_from c.args.piece c.args.at c.args.pieces.now) past))
