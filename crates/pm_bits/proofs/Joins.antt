@@ -14,21 +14,21 @@ joined_fits j k h l high low =
     let size : 2 ^ (j + k) ≡ 2 ^ j * 2 ^ k = pow-add 2 j k in
     grind arith
 
--- one number above another, as a shift and an or give it
+-- one number above another, as a shift and an or make it
 pub joined : (j k h l : ℕ) → h < 2 ^ j → l < 2 ^ k → j + k ≤ 128 → bit_or (h * 2 ^ k % 2 ^ 128) l % 2 ^ (j + k) ≡ h * 2 ^ k + l
 joined j k h l high low narrow =
     let up : h * 2 ^ k % 2 ^ 128 ≡ h * 2 ^ k = shl_whole h j k 128 high narrow in
     let both : bit_or (h * 2 ^ k % 2 ^ 128) l ≡ h * 2 ^ k + l = ap (λ (n : ℕ). bit_or n l) up ∙ or_shifted h k l low in
     ap (λ (n : ℕ). n % 2 ^ (j + k)) both ∙ uncut (j + k) (h * 2 ^ k + l) (joined_fits j k h l high low)
 
--- a number in three parts, with the powers of its places multiplied out
+-- a number in three parts, with their powers of 2 multiplied out
 pub regrouped : (h p low q r : ℕ) → (h * q + p) * r + low ≡ low + p * r + h * (r * q)
 regrouped h p low q r =
     let spread : (h * q + p) * r ≡ h * q * r + p * r = add-mul (h * q) p r in
     let order : h * q * r ≡ h * (r * q) = mul_assoc h q r ∙ ap (λ (n : ℕ). h * n) (mul_comm q r) in
     omega (arith, spread, order)
 
--- a place cleared in a number, where the mask of the place is all ones of its width
+-- some bits of a number cleared by a mask of ones
 cleared : (lo k m v : ℕ) → m + 1 ≡ 2 ^ k → lo + k ≤ 128 → v < 2 ^ 128
     → bit_and v (2 ^ 128 - 1 - m * 2 ^ lo) ≡ v / 2 ^ lo / 2 ^ k * 2 ^ k * 2 ^ lo + v % 2 ^ lo
 cleared lo k m v ones narrow fits =
@@ -47,7 +47,7 @@ cleared lo k m v ones narrow fits =
     ap (λ (n : ℕ). n * 2 ^ lo) (sym again) ∙ add-mul (v / 2 ^ lo / 2 ^ k * 2 ^ k) (v / 2 ^ lo % 2 ^ k) (2 ^ lo) in
     omega (arith, apart, held, turned, split, spread)
 
--- a number with a place cleared and filled again, as masks and shifts give it
+-- some bits of a number cleared and then filled again, as masks and shifts do it
 pub replaced : (w lo k m v p : ℕ) → m + 1 ≡ 2 ^ k → lo + k ≤ w → w ≤ 128 → v < 2 ^ w → p < 2 ^ k
     → bit_or (bit_and v (2 ^ 128 - 1 - m * 2 ^ lo % 2 ^ 128)) (p * 2 ^ lo % 2 ^ 128) % 2 ^ w
     ≡ v % 2 ^ lo + p * 2 ^ lo + v / 2 ^ (lo + k) * 2 ^ (lo + k)

@@ -20,7 +20,7 @@ masked n m w ones =
     let mask : m ≡ 2 ^ w - 1 = omega arith in
     ap (bit_and n) mask ∙ and_mask n w
 
--- to cut a number to 128 bits first changes nothing
+-- cutting a number to 128 bits first changes nothing
 pub cut_again : (w s : ℕ) → w ≤ 128 → s % 2 ^ 128 % 2 ^ w ≡ s % 2 ^ w
 cut_again w s narrow =
     let whole : (128 - w) + w ≡ 128 = omega arith in
@@ -36,15 +36,15 @@ fits_wider w n v wider fits =
     let more : 2 ^ w ≤ 2 ^ n = pow-le-pow_right {n = 2} (omega arith) wider in
     omega arith
 
--- the bits in both of two numbers fit where one does
+-- the bits that are in both of two numbers fit if one number fits
 pub and_uncut : (w a b : ℕ) → a < 2 ^ w → bit_and a b % 2 ^ w ≡ bit_and a b
 and_uncut w a b fits = uncut w (bit_and a b) (omega (arith, and_le_l a b))
 
--- the bits in one of two numbers at least fit where both do
+-- the bits that are in at least one of two numbers fit if both numbers fit
 pub or_uncut : (w a b : ℕ) → a < 2 ^ w → b < 2 ^ w → bit_or a b % 2 ^ w ≡ bit_or a b
 or_uncut w a b first second = uncut w (bit_or a b) (or_lt w a b first second)
 
--- the bits in exactly one of two numbers fit where both do
+-- the bits that are in exactly one of two numbers fit if both numbers fit
 pub xor_uncut : (w a b : ℕ) → a < 2 ^ w → b < 2 ^ w → bit_xor a b % 2 ^ w ≡ bit_xor a b
 xor_uncut w a b first second = uncut w (bit_xor a b) (xor_lt w a b first second)
 

@@ -22,7 +22,7 @@ min-bits zero y first second = omega arith
 min-bits (suc zero) y first second = omega arith
 min-bits (suc (suc x)) y first second = absurd (omega arith)
 
--- a bit below a cut is that of the whole number
+-- a bit below a cut is the same bit of the whole number
 pub bit_of_cut : (w n i : ℕ) → i < w → n % 2 ^ w / 2 ^ i % 2 ≡ n / 2 ^ i % 2
 bit_of_cut w n i below =
     sym (bit_at_cat_low (n / 2 ^ w) w (n % 2 ^ w) i below) ∙ ap (λ (k : ℕ). k / 2 ^ i % 2) (shr_split n w)
@@ -123,12 +123,12 @@ same_from_bits a b first second widths bits =
     let fits : b.value < 2 ^ a.width = subst (λ (k : ℕ). b.value < 2 ^ k) (sym widths) second.fits in
     same_word a b widths (same_from_bits_below a.width a.value b.value first.fits fits bits)
 
--- one bit is 1 exactly where it stands for true
+-- one bit is 1 exactly when it is made of true
 truth-one : (test : Bool) → ((truth_of test).value ≡ 1) ↔ (test ≡ true)
 truth-one true = (λ _. refl, λ _. refl)
 truth-one false = (λ same. absurd (omega arith), λ same. absurd (cc))
 
--- one bit is 0 exactly where it stands for false
+-- one bit is 0 exactly when it is made of false
 truth-zero : (test : Bool) → ((truth_of test).value ≡ 0) ↔ (test ≡ false)
 truth-zero true = (λ same. absurd (omega arith), λ same. absurd (cc))
 truth-zero false = (λ _. refl, λ _. refl)

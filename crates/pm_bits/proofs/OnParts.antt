@@ -30,7 +30,7 @@ low_of_concatenation high low second =
     (ap₂ (λ (n k : ℕ). n % 2 ^ k) (div-one (high.value * 2 ^ low.width + low.value)) width
     ∙ mod_low high.value low.width low.value second.fits)
 
--- a number in three parts, from the parts above a place, at it and below it
+-- a number in three parts: above some bits, those bits, and below them
 three_parts : (w : Word) (lo : ℕ) (part : Word)
     → (with_slice_of w lo part).value ≡ (w.value / 2 ^ (lo + part.width) * 2 ^ part.width + part.value) * 2 ^ lo + w.value % 2 ^ lo
 three_parts w lo part =

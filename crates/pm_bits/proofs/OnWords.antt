@@ -63,7 +63,7 @@ pub slice_is_word : SliceIsWord
 slice_is_word w lo hi word some within =
     word_of_is_word (hi - lo) (w.value / 2 ^ lo) (omega arith) (omega (arith, word.narrow))
 
--- a word with a part put in within its width
+-- a word with a part put in, within the width
 pub with_slice_is_word : WithSliceIsWord
 with_slice_is_word w lo part word other within =
     let ones : 2 ^ part.width - 1 + 1 ≡ 2 ^ part.width = omega (arith, pow_pos part.width) in

@@ -14,7 +14,7 @@ count_ones-bit zero h = refl
 count_ones-bit (suc zero) h = refl
 count_ones-bit (suc (suc b)) h = absurd (omega arith)
 
--- the count of the lowest bits is that of the number that they make
+-- the count of the lowest bits is the count of the number that they make
 set_bits-count_ones : (v n : ℕ) → set_bits v n ≡ count_ones (v % 2 ^ n)
 unfolding set_bits ones
 set_bits-count_ones v zero = sym (ap count_ones (mod-one v))

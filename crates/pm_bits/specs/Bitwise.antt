@@ -6,7 +6,7 @@ use Rattle.pm_bits.specs.Word.{Word, word_of, truth_of}
 abbrev pub conjunction_of : Word → Word → Word
 conjunction_of a b = record { width = a.width; value = bit_and a.value b.value }
 
--- the bits that are set in one word at least
+-- the bits that are set in at least one word
 abbrev pub disjunction_of : Word → Word → Word
 disjunction_of a b = record { width = a.width; value = bit_or a.value b.value }
 
@@ -18,11 +18,11 @@ exclusive_of a b = record { width = a.width; value = bit_xor a.value b.value }
 abbrev pub complement_of : Word → Word
 complement_of w = record { width = w.width; value = 2 ^ w.width - 1 - w.value }
 
--- the bits moved up by the second word's number of places, where a whole width leaves none
+-- the bits moved up by the second word's number; a move by the width or more leaves none
 abbrev pub left_shift_of : Word → Word → Word
 left_shift_of a b = word_of a.width (a.value * 2 ^ min b.value a.width)
 
--- the bits moved down by the second word's number of places, where a whole width leaves none
+-- the bits moved down by the second word's number; a move by the width or more leaves none
 abbrev pub right_shift_of : Word → Word → Word
 right_shift_of a b = word_of a.width (a.value / 2 ^ min b.value a.width)
 

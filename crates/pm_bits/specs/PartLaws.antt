@@ -13,11 +13,11 @@ HighOfConcatenation = (high low : Word) → IsWord high → IsWord low → slice
 abbrev pub LowOfConcatenation : Type 0
 LowOfConcatenation = (high low : Word) → IsWord low → slice_of (concatenation_of high low) 0 low.width ≡ low
 
--- a part that was put in is read again at its place
+-- a slice at a part that was put in is the part
 abbrev pub SliceOfReplaced : Type 0
 SliceOfReplaced = (w : Word) (lo : ℕ) (part : Word) → IsWord part → slice_of (with_slice_of w lo part) lo (lo + part.width) ≡ part
 
--- a part that is put in leaves the bits outside its place
+-- a part that is put in changes no bit below or above it
 abbrev pub BitsOutsideStay : Type 0
 BitsOutsideStay =
     (w : Word) (lo : ℕ) (part : Word) (i : ℕ) → IsWord part → ((i < lo) ⊎ (lo + part.width ≤ i)) → bit_of (with_slice_of w lo part) i ≡ bit_of w i

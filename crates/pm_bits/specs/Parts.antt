@@ -6,7 +6,7 @@ use Rattle.pm_bits.specs.Word.{Word, word_of}
 abbrev pub slice_of : Word → ℕ → ℕ → Word
 slice_of w lo hi = record { width = hi - lo; value = w.value / 2 ^ lo % 2 ^ (hi - lo) }
 
--- the bits below the part's place, then the part, then the bits above its place
+-- the bits below the part, then the part, then the bits above the part
 abbrev pub with_slice_of : Word → ℕ → Word → Word
 with_slice_of w lo part = record {
   width = w.width;

@@ -27,7 +27,7 @@ ComplementIsWord = (w : Word) → IsWord w → IsWord (complement_of w)
 abbrev pub SliceIsWord : Type 0
 SliceIsWord = (w : Word) (lo hi : ℕ) → IsWord w → lo < hi → hi ≤ w.width → IsWord (slice_of w lo hi)
 
--- a word with a part put in within its width
+-- a word with a part put in, within the width
 abbrev pub WithSliceIsWord : Type 0
 WithSliceIsWord = (w : Word) (lo : ℕ) (part : Word) → IsWord w → IsWord part → lo + part.width ≤ w.width → IsWord (with_slice_of w lo part)
 

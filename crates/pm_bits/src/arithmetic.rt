@@ -5,7 +5,7 @@ ghost use Rattle.pm_bits.specs.Arithmetic.{sum_of, difference_of, product_of};
 use crate::bits::Bits;
 
 impl Bits {
-    /// The sum modulo 2 to the width, of the operands' width. `None` where the widths differ.
+    /// The sum modulo 2 to the width, of the operands' width. `None` if the widths differ.
     #[tactic(auto, using(crate::proofs::Masks::cut_again))]
     pub fn add(self, other: Bits) -> Option<Bits>
         ensures none { IsNone result ↔ (self.width ≢ other.width) }
@@ -17,7 +17,7 @@ impl Bits {
         Some(Bits::of_low_bits(self.width(), self.value().wrapping_add(other.value())))
     }
 
-    /// The difference modulo 2 to the width, of the operands' width. `None` where the widths
+    /// The difference modulo 2 to the width, of the operands' width. `None` if the widths
     /// differ.
     #[tactic(auto, using(crate::proofs::Masks::cut_difference))]
     pub fn sub(self, other: Bits) -> Option<Bits>
@@ -30,7 +30,7 @@ impl Bits {
         Some(Bits::of_low_bits(self.width(), self.value().wrapping_sub(other.value())))
     }
 
-    /// The product modulo 2 to the width, of the operands' width. `None` where the widths differ.
+    /// The product modulo 2 to the width, of the operands' width. `None` if the widths differ.
     #[tactic(auto, using(crate::proofs::Masks::cut_again))]
     pub fn mul(self, other: Bits) -> Option<Bits>
         ensures none { IsNone result ↔ (self.width ≢ other.width) }

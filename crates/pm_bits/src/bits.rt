@@ -1,4 +1,4 @@
-//! The type of a value of 1 to 128 bits, how one is made, and what it tells of itself.
+//! The type of a value of 1 to 128 bits: how one is made, its width and its number.
 ghost use Rattle.std.specs.Prelude.{◌≡◌, ◌+◌, ◌-◌, ◌≤◌, ◌<◌, ◌^◌, ◌%◌, ◌↔◌, ◌⊎◌, ◌<ℤ◌, ◌≤ℤ◌, pos, neg_ℤ, IsNone, IfSome};
 ghost use Rattle.pm_bits.specs.Word.{Word, IsWord, word_of, word_of_int, truth_of};
 
@@ -25,8 +25,7 @@ impl Model for Bits {
 }
 
 impl Bits {
-    /// The value of this width that is this number. A number that does not fit is refused, and
-    /// never cut.
+    /// The value of this width with this number. A number that does not fit is refused, never cut.
     pub fn new(width: u32, value: u128) -> Option<Bits>
         ensures none { IsNone result ↔ ((width ≡ 0) ⊎ ((128 < width) ⊎ (2 ^ width ≤ value))) }
         ensures value { IfSome result (λ b. b ≡ record { width = width; value = value }) }
@@ -37,9 +36,9 @@ impl Bits {
         Some(Bits { width, value })
     }
 
-    /// The value of this width that is this number modulo 2 to the width, as a constant of a
-    /// design takes the width of its place. A number is refused where it fits neither as an
-    /// unsigned nor as a two's complement number.
+    /// The value of this width whose number is this one modulo 2 to the width. So a constant of a
+    /// design takes the width of its context. A number is refused if it fits neither as an unsigned
+    /// nor as a two's complement number.
     pub fn of_int(width: u32, c: i64) -> Option<Bits>
         ensures none { IsNone result
             ↔ ((width ≡ 0) ⊎ ((128 < width) ⊎ ((c <ℤ neg_ℤ (pos (2 ^ (width - 1)))) ⊎ (pos (2 ^ width) ≤ℤ c)))) }
@@ -91,7 +90,7 @@ impl Bits {
         }
     }
 
-    // One bit, set where the test holds.
+    // One bit, set if and only if the test holds.
     pub(crate) fn of_truth(test: bool) -> Bits
         ensures { result ≡ truth_of test }
     {

@@ -5,7 +5,7 @@ ghost use Rattle.pm_bits.specs.Bitwise.{conjunction_of, disjunction_of, exclusiv
 use crate::bits::{Bits, mask};
 
 impl Bits {
-    /// The bits set in both operands, of their width. `None` where the widths differ.
+    /// The bits set in both operands, of their width. `None` if the widths differ.
     #[tactic(auto, using(crate::proofs::Masks::and_uncut))]
     pub fn and(self, other: Bits) -> Option<Bits>
         ensures none { IsNone result ↔ (self.width ≢ other.width) }
@@ -17,7 +17,7 @@ impl Bits {
         Some(Bits::of_low_bits(self.width(), self.value() & other.value()))
     }
 
-    /// The bits set in one operand at least, of their width. `None` where the widths differ.
+    /// The bits set in at least one operand, of their width. `None` if the widths differ.
     #[tactic(auto, using(crate::proofs::Masks::or_uncut))]
     pub fn or(self, other: Bits) -> Option<Bits>
         ensures none { IsNone result ↔ (self.width ≢ other.width) }
@@ -29,7 +29,7 @@ impl Bits {
         Some(Bits::of_low_bits(self.width(), self.value() | other.value()))
     }
 
-    /// The bits set in exactly one operand, of their width. `None` where the widths differ.
+    /// The bits set in exactly one operand, of their width. `None` if the widths differ.
     #[tactic(auto, using(crate::proofs::Masks::xor_uncut))]
     pub fn xor(self, other: Bits) -> Option<Bits>
         ensures none { IsNone result ↔ (self.width ≢ other.width) }
@@ -49,8 +49,8 @@ impl Bits {
         Bits::of_low_bits(self.width(), !self.value())
     }
 
-    /// The bits moved towards the most significant end by the other operand's number of places.
-    /// Zeros come in, and a shift by the width or more gives 0. `None` where the widths differ.
+    /// The bits moved towards the most significant end by as many bits as the other operand says.
+    /// Zeros come in, and a shift by the width or more gives 0. `None` if the widths differ.
     #[tactic(auto, using(crate::proofs::Moves::moves))]
     pub fn shl(self, other: Bits) -> Option<Bits>
         ensures none { IsNone result ↔ (self.width ≢ other.width) }
@@ -65,8 +65,8 @@ impl Bits {
         Some(Bits::of_low_bits(self.width(), self.value() << other.value()))
     }
 
-    /// The bits moved towards the least significant end by the other operand's number of places.
-    /// Zeros come in, and a shift by the width or more gives 0. `None` where the widths differ.
+    /// The bits moved towards the least significant end by as many bits as the other operand says.
+    /// Zeros come in, and a shift by the width or more gives 0. `None` if the widths differ.
     pub fn shr(self, other: Bits) -> Option<Bits>
         ensures none { IsNone result ↔ (self.width ≢ other.width) }
         ensures value { IfSome result (λ b. b ≡ right_shift_of self other) }
@@ -80,7 +80,7 @@ impl Bits {
         Some(Bits::of_low_bits(self.width(), self.value() >> other.value()))
     }
 
-    // Whether a move by this number of places leaves no bit of the width.
+    // Whether a shift by this number moves all bits out of the width.
     fn is_moved_out_by(self, places: Bits) -> bool
         ensures { IsTrue result ↔ (self.width ≤ places.value) }
     {

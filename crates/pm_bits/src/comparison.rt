@@ -5,7 +5,7 @@ ghost use Rattle.pm_bits.specs.Comparison.{equality_of, inequality_of, less_of, 
 use crate::bits::Bits;
 
 impl Bits {
-    /// One bit: whether the operands are equal. `None` where the widths differ.
+    /// One bit: whether the operands are equal. `None` if the widths differ.
     pub fn eq_bit(self, other: Bits) -> Option<Bits>
         ensures none { IsNone result ↔ (self.width ≢ other.width) }
         ensures value { IfSome result (λ b. b ≡ equality_of self other) }
@@ -16,7 +16,7 @@ impl Bits {
         Some(Bits::of_truth(self.value() == other.value()))
     }
 
-    /// One bit: whether the operands differ. `None` where the widths differ.
+    /// One bit: whether the operands differ. `None` if the widths differ.
     pub fn ne_bit(self, other: Bits) -> Option<Bits>
         ensures none { IsNone result ↔ (self.width ≢ other.width) }
         ensures value { IfSome result (λ b. b ≡ inequality_of self other) }
@@ -27,7 +27,7 @@ impl Bits {
         Some(Bits::of_truth(self.value() != other.value()))
     }
 
-    /// One bit: whether this number is below the other. `None` where the widths differ.
+    /// One bit: whether this number is below the other. `None` if the widths differ.
     pub fn lt_bit(self, other: Bits) -> Option<Bits>
         ensures none { IsNone result ↔ (self.width ≢ other.width) }
         ensures value { IfSome result (λ b. b ≡ less_of self other) }
@@ -38,7 +38,7 @@ impl Bits {
         Some(Bits::of_truth(self.value() < other.value()))
     }
 
-    /// One bit: whether this number is at most the other. `None` where the widths differ.
+    /// One bit: whether this number is at most the other. `None` if the widths differ.
     pub fn le_bit(self, other: Bits) -> Option<Bits>
         ensures none { IsNone result ↔ (self.width ≢ other.width) }
         ensures value { IfSome result (λ b. b ≡ at_most_of self other) }
@@ -49,7 +49,7 @@ impl Bits {
         Some(Bits::of_truth(self.value() <= other.value()))
     }
 
-    /// One bit: whether this number is above the other. `None` where the widths differ.
+    /// One bit: whether this number is above the other. `None` if the widths differ.
     pub fn gt_bit(self, other: Bits) -> Option<Bits>
         ensures none { IsNone result ↔ (self.width ≢ other.width) }
         ensures value { IfSome result (λ b. b ≡ greater_of self other) }
@@ -60,7 +60,7 @@ impl Bits {
         Some(Bits::of_truth(self.value() > other.value()))
     }
 
-    /// One bit: whether this number is at least the other. `None` where the widths differ.
+    /// One bit: whether this number is at least the other. `None` if the widths differ.
     pub fn ge_bit(self, other: Bits) -> Option<Bits>
         ensures none { IsNone result ↔ (self.width ≢ other.width) }
         ensures value { IfSome result (λ b. b ≡ at_least_of self other) }

@@ -1,4 +1,4 @@
-//! Laws of the operators, each proved once: no code calls them.
+//! Laws of the operators. No code calls these functions: each one proves its law.
 ghost use Rattle.pm_bits.specs.BitLaws.{BitsOfConjunction, BitsOfDisjunction, BitsOfExclusive, BitsOfComplement, BitsOfLeftShift, BitsOfRightShift, LeftShiftIsProduct, RightShiftIsQuotient, SameFromBits, AllSetMeans, NoneSetMeans, EqualityMeans, LessMeans, AtMostMeans, SumOfDifference};
 ghost use Rattle.pm_bits.specs.PartLaws.{HighOfConcatenation, LowOfConcatenation, SliceOfReplaced, BitsOutsideStay, TruncationOfZeroExtension, TruncationOfSignExtension, SignExtensionByFlip};
 ghost use Rattle.pm_bits.specs.WordLaws.{ResultIsWord, FoldingIsWord, IntIsWord, ComplementIsWord, SliceIsWord, WithSliceIsWord, ConcatenationIsWord, ZeroExtensionIsWord, SignExtensionIsWord, TruncationIsWord};
@@ -21,7 +21,7 @@ pub fn bits_of_an_exclusive_or()
     ensures { BitsOfExclusive }
 {}
 
-/// Bits of a complement are the other ones of 0 and 1.
+/// Bits of a complement are flipped bits.
 #[tactic(auto, using(crate::proofs::OnBits::bits_of_complement))]
 pub fn bits_of_a_complement()
     ensures { BitsOfComplement }
@@ -57,31 +57,31 @@ pub fn words_are_their_bits()
     ensures { SameFromBits }
 {}
 
-/// `reduce_and` is 1 exactly where each bit is 1.
+/// `reduce_and` is 1 exactly when each bit is 1.
 #[tactic(auto, using(crate::proofs::OnBits::all_set_means))]
 pub fn all_set_is_each_bit()
     ensures { AllSetMeans }
 {}
 
-/// `reduce_or` is 0 exactly where each bit is 0.
+/// `reduce_or` is 0 exactly when each bit is 0.
 #[tactic(auto, using(crate::proofs::OnBits::none_set_means))]
 pub fn none_set_is_no_bit()
     ensures { NoneSetMeans }
 {}
 
-/// `eq_bit` is 1 exactly where the words are one word.
+/// `eq_bit` is 1 exactly when the words are one word.
 #[tactic(auto, using(crate::proofs::OnBits::equality_means))]
 pub fn equality_is_equality()
     ensures { EqualityMeans }
 {}
 
-/// `lt_bit` is 1 exactly where the first number is below the second.
+/// `lt_bit` is 1 exactly when the first number is below the second.
 #[tactic(auto, using(crate::proofs::OnBits::less_means))]
 pub fn less_is_below()
     ensures { LessMeans }
 {}
 
-/// `le_bit` is 1 exactly where the first number is at most the second.
+/// `le_bit` is 1 exactly when the first number is at most the second.
 #[tactic(auto, using(crate::proofs::OnBits::at_most_means))]
 pub fn at_most_is_at_most()
     ensures { AtMostMeans }
@@ -105,13 +105,13 @@ pub fn low_part_of_a_concatenation()
     ensures { LowOfConcatenation }
 {}
 
-/// A part that was put in is read again at its place.
+/// A slice at a part that was put in is the part.
 #[tactic(auto, using(crate::proofs::OnParts::slice_of_replaced))]
 pub fn a_part_put_in_is_read_again()
     ensures { SliceOfReplaced }
 {}
 
-/// A part that is put in leaves the bits outside its place.
+/// A part that is put in changes no bit below or above it.
 #[tactic(auto, using(crate::proofs::OnParts::bits_outside_stay))]
 pub fn bits_outside_a_part_stay()
     ensures { BitsOutsideStay }

@@ -3,13 +3,13 @@
 //! A [`Bits`] is what a wire, a port or a register of a design carries: a width, and an unsigned
 //! number below 2 to the width. The operators are those of PyMTL3's `Bits`: they take operands of
 //! one width, wrap modulo 2 to the width, shift logically and compare unsigned numbers. A call
-//! that has no value for its widths answers `None`, takes no memory, and needs nothing beforehand.
+//! that has no value for its widths returns `None`. No call allocates, and none has a condition.
 //!
 //! **What a contract says.** Contracts see a `Bits` as a `Word`, a record of a width and a number.
 //! Each call has a clause `none`, which says exactly when there is no value, and a clause `value`,
-//! which gives the value by one definition over numbers, as `sum_of` or `slice_of`. That each
-//! result is again a word within its width, and what each definition does to single bits, is
-//! proved in [`laws`].
+//! which gives the value by one definition over numbers, such as `sum_of` or `slice_of`. The
+//! functions of [`laws`] prove that each result fits its width, and what each definition does to
+//! single bits.
 //!
 //! - `bits`: the type [`Bits`], with `new`, `of_int`, `width` and `value`
 //! - `arithmetic`: `add`, `sub`, `mul`
@@ -30,6 +30,3 @@ mod parts;
 
 pub use bits::Bits;
 pub use operator::{Fold, Op};
-
-#[cfg(test)]
-mod tests;

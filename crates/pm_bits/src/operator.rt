@@ -1,10 +1,10 @@
-//! The operators as values, so that a tree of a design can name them.
+//! The operators as values, so that the tree of a design can name them.
 ghost use Rattle.std.specs.Prelude.{◌≡◌, ◌↔◌, ◌≢◌, IsNone, IfSome};
 ghost use Rattle.pm_bits.specs.Operator.{result_of, folding_of};
 
 use crate::bits::Bits;
 
-/// An operator of two operands of one width, as PyMTL3's `Bits` has it.
+/// An operator of two operands of one width, as in PyMTL3's `Bits`.
 #[derive(Clone, Copy, Debug, PartialEq, Eq)]
 pub enum Op {
     /// The sum modulo 2 to the width.
@@ -15,7 +15,7 @@ pub enum Op {
     Mul,
     /// The bits set in both operands.
     And,
-    /// The bits set in one operand at least.
+    /// The bits set in at least one operand.
     Or,
     /// The bits set in exactly one operand.
     Xor,
@@ -38,7 +38,7 @@ pub enum Op {
 }
 
 /// How all bits of a value are folded into one.
-#[derive(Clone, Copy, Debug, PartialEq, Eq)]
+#[derive(Clone, Copy, PartialEq, Eq)]
 pub enum Fold {
     /// Whether each bit is set.
     All,
@@ -49,8 +49,8 @@ pub enum Fold {
 }
 
 impl Op {
-    /// The operator's result, of the operands' width, or of one bit for a comparison. `None` where
-    /// the widths differ.
+    /// The operator's result, of the operands' width, or of one bit for a comparison. `None` if the
+    /// widths differ.
     pub fn apply(self, left: Bits, right: Bits) -> Option<Bits>
         ensures none { IsNone result ↔ (left.width ≢ right.width) }
         ensures value { IfSome result (λ b. b ≡ result_of self left right) }

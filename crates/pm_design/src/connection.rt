@@ -3,7 +3,7 @@ use pm_bits::Bits;
 use pm_io::Text;
 
 /// Some neighbouring bits of a signal.
-#[derive(Clone, Copy, Debug, PartialEq, Eq)]
+#[derive(Clone, Copy, PartialEq, Eq)]
 pub struct Part {
     /// Whose signal it is: 0 for the component itself, k + 1 for its child k.
     pub owner: u32,
@@ -14,17 +14,17 @@ pub struct Part {
 }
 
 /// A connection of two parts.
-#[derive(Debug, Drop)]
+#[derive(Drop)]
 pub struct Join {
     pub line: u32,
     pub a: Part,
     pub b: Part,
-    /// Whether both ends have one type.
+    /// Whether both ends have the same type.
     pub equal_types: bool,
 }
 
-/// A part that is tied to a constant, or to an integer that doesn't fit it (`None`).
-#[derive(Debug, Drop)]
+/// A part that is tied to a constant, or to an integer that doesn't fit (`None`).
+#[derive(Drop)]
 pub struct Tie {
     pub line: u32,
     pub part: Part,
@@ -32,7 +32,7 @@ pub struct Tie {
 }
 
 /// What a call names.
-#[derive(Clone, Copy, Debug, PartialEq, Eq)]
+#[derive(Clone, Copy, PartialEq, Eq)]
 pub enum Callee {
     /// A method of the component itself.
     Own(u32),
@@ -45,17 +45,17 @@ pub enum Callee {
 }
 
 /// A port through which a component calls a method of another one.
-#[derive(Debug, Drop)]
+#[derive(Drop)]
 pub struct Caller {
     pub name: Text,
-    /// The width of the argument, where there is one.
+    /// The width of the argument, if there is one.
     pub argument: Option<u32>,
-    /// The width of the result, where there is one.
+    /// The width of the result, if there is one.
     pub result: Option<u32>,
 }
 
 /// A connection of a caller port.
-#[derive(Debug, Drop)]
+#[derive(Drop)]
 pub struct Bind {
     pub line: u32,
     pub a: Callee,
@@ -65,7 +65,7 @@ pub struct Bind {
 }
 
 /// One side of a constraint: a set of update blocks.
-#[derive(Debug, Drop)]
+#[derive(Drop)]
 pub enum Term {
     /// `U( f )`: a block of the component.
     Block(u32),
@@ -80,7 +80,7 @@ pub enum Term {
 }
 
 /// A constraint: the blocks of one term run before those of another.
-#[derive(Debug, Drop)]
+#[derive(Drop)]
 pub struct Rule {
     pub line: u32,
     pub before: Term,

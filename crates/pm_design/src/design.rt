@@ -6,7 +6,7 @@ use pm_bits::Bits;
 use pm_io::{List, Text};
 
 /// A design: its kinds, each child's kind before its parent's, and which kind the top component has.
-#[derive(Debug, Drop)]
+#[derive(Drop)]
 pub struct Design {
     pub kinds: List<Kind>,
     pub shapes: List<Shape>,
@@ -14,7 +14,7 @@ pub struct Design {
 }
 
 /// A kind of component: what `construct` makes of a class and its arguments.
-#[derive(Debug, Drop)]
+#[derive(Drop)]
 pub struct Kind {
     pub class: Text,
     /// The signals in order of declaration, the one-bit input `reset` first.
@@ -28,24 +28,24 @@ pub struct Kind {
     pub binds: List<Bind>,
     pub blocks: List<Block>,
     pub rules: List<Rule>,
-    /// How many instances a component of this kind has, itself among them.
+    /// How many instances a component of this kind has, including itself.
     pub instances: u32,
 }
 
 /// A state of a component: a number, or a deque of numbers.
-#[derive(Debug, Drop)]
+#[derive(Drop)]
 pub struct State {
     pub name: Text,
     /// The width of the number, or of each item.
     pub width: u32,
-    /// How many items a deque holds at the most, and 0 for a number.
+    /// How many items a deque holds at most, or 0 for a number.
     pub maxlen: u32,
     /// The number before the first cycle.
     pub start: Bits,
 }
 
 /// A component within a component.
-#[derive(Debug, Drop)]
+#[derive(Drop)]
 pub struct Child {
     pub name: Text,
     pub kind: u32,

@@ -1,9 +1,9 @@
 //! The types of an elaborated design.
 //!
-//! A design is a list of kinds of component, each with its signals, state, children, connections, methods, update
-//! blocks and constraints; bodies of blocks and methods are typed and free of loops. Kinds, signals and the like name
-//! one another by their place in the design's lists, counted from 0. Everything here is plain data: elaboration makes
-//! it, and the passes behind it read it.
+//! A design is a list of kinds of component. Each kind has signals, states, children, connections, methods, update
+//! blocks and constraints. Bodies of blocks and methods are typed and have no loops. Kinds, signals and the like refer
+//! to one another by their index in the design's lists, counted from 0. Everything here is plain data: elaboration
+//! makes it, and later passes read it.
 #![tactic(auto)]
 
 mod body;

@@ -1,7 +1,7 @@
 //! Signals and their types.
 use pm_io::{List, Text};
 
-/// What a signal is to the outside of its component.
+/// What a signal is, seen from outside its component.
 #[derive(Clone, Copy, Debug, PartialEq, Eq)]
 pub enum Role {
     /// An `InPort`, which the parent drives.
@@ -20,12 +20,12 @@ pub struct Signal {
     pub role: Role,
     /// Its width in bits, 1 to 128.
     pub width: u32,
-    /// Its bitstruct, where it has one: a place in the design's shapes.
+    /// Its bitstruct, if it has one: an index into the design's shapes.
     pub shape: Option<u32>,
 }
 
 /// A bitstruct.
-#[derive(Debug, Drop)]
+#[derive(Drop)]
 pub struct Shape {
     pub name: Text,
     /// The fields in order of declaration, the first one most significant.
@@ -35,12 +35,12 @@ pub struct Shape {
 }
 
 /// A field of a bitstruct.
-#[derive(Debug, Drop)]
+#[derive(Drop)]
 pub struct Field {
     pub name: Text,
-    /// The place of its lowest bit in the packed bitstruct.
+    /// The index of its lowest bit in the packed bitstruct.
     pub lo: u32,
     pub width: u32,
-    /// The bitstruct that it is itself, where it is one.
+    /// Its own bitstruct, if it is one.
     pub shape: Option<u32>,
 }
