@@ -1,12 +1,12 @@
--- What is answered for a text that was read as far as it can be.
+-- The answer for a text that was read as far as it can be.
 use Rattle.std.proofs.Common.{◌≡◌, ◌⊎◌, ◌∙◌, ◌≤◌, ◌<◌, ◌^◌, ◌++◌, ℕ, Bool, true, false, if◌then◌else◌, nat_lt, List, [], ◌∷◌, Option, Some, None, Result, Ok, Err, All, length, map, ap, suc, sym, subst, refl, inl, inr, arith}
 use Rattle.std.proofs.lemmas.Bool.Decides.{nat_tests}
 use Rattle.std.proofs.lemmas.List.Elements.{All-append, All-cons, All-contains, All-nil, All-weaker}
 use Rattle.std.proofs.lemmas.Option.{get_or_from_slice_get, same_Some, slice_get_within}
 use Rattle.std.specs.Prelude.{slice_get}
 use Rattle.pm_syn.specs.Answers.{HasFault, IsAnswer}
-use Rattle.pm_syn.specs.Faults.{ComesBy, IsFirst, faults_behind, faults_of_line, is_before, length_of, line_faults, line_named, token_fault}
-use Rattle.pm_syn.specs.Indentation.{columns_with, is_placed}
+use Rattle.pm_syn.specs.Faults.{ComesBy, IsFirst, faults_of_lines, faults_of_line, is_before, length_of, line_faults, line_named, token_fault}
+use Rattle.pm_syn.specs.Indentation.{columns_with, is_allowed}
 use Rattle.pm_syn.specs.Lexemes.{Lexeme}
 use Rattle.pm_syn.specs.LogicalLines.{drafts_of, line_from}
 use Rattle.pm_syn.specs.Progress.{IsRead, named}
@@ -20,7 +20,7 @@ use Rattle.pm_syn.proofs.OneFault.{one_answer}
 use Rattle.pm_syn.proofs.Ascending.{Ascend, all_of_line, ascending, head_first}
 
 -- a fault of a logical line
-abbrev IsOfLine : TextFault → Type 0
+abbrev pub IsOfLine : TextFault → Type 0
 IsOfLine (fault.BadIndent line) = Unit {0}
 IsOfLine (fault.LineTooLong line) = Unit {0}
 IsOfLine (fault.BadToken line) = ⊥
@@ -28,15 +28,15 @@ IsOfLine fault.FileTooLong = ⊥
 IsOfLine fault.NoMemory = ⊥
 
 -- all faults of logical lines are
-of_lines : (earlier : List ℕ) (drafts : List Draft) → All IsOfLine (faults_behind earlier drafts)
+pub of_lines : (earlier : List ℕ) (drafts : List Draft) → All IsOfLine (faults_of_lines earlier drafts)
 of_lines earlier [] = All-nil IsOfLine
 of_lines earlier (draft ∷ drafts) =
-    All-append IsOfLine (faults_of_line earlier draft) (faults_behind (columns_with draft.indentation earlier) drafts)
-    (all_of_line IsOfLine (is_placed draft.indentation earlier) (nat_lt 4096 (length_of draft.tokens)) draft.number tt tt)
+    All-append IsOfLine (faults_of_line earlier draft) (faults_of_lines (columns_with draft.indentation earlier) drafts)
+    (all_of_line IsOfLine (is_allowed draft.indentation earlier) (nat_lt 4096 (length_of draft.tokens)) draft.number tt tt)
     (of_lines (columns_with draft.indentation earlier) drafts)
 
 -- it names a line before this one, or it doesn't
-before_line : (first : TextFault) (line : ℕ) → IsOfLine first → is_before first line ≡ true → line_named first < line
+pub before_line : (first : TextFault) (line : ℕ) → IsOfLine first → is_before first line ≡ true → line_named first < line
 before_line (fault.BadIndent named) line is lt = grind (arith, nat_tests)
 before_line (fault.LineTooLong named) line is lt = grind (arith, nat_tests)
 before_line (fault.BadToken named) line is lt = absurd is
@@ -50,14 +50,14 @@ not_before_line (fault.BadToken named) line is lt = absurd is
 not_before_line fault.FileTooLong line is lt = absurd is
 not_before_line fault.NoMemory line is lt = absurd is
 
--- the head of the faults is one of a line
-head_of_line : (drafts : List Draft) (first : TextFault) → slice_get (line_faults drafts) 0 ≡ Some first → IsOfLine first
+-- the first of the faults is one of a line
+pub head_of_line : (drafts : List Draft) (first : TextFault) → slice_get (line_faults drafts) 0 ≡ Some first → IsOfLine first
 head_of_line drafts first is =
     All-contains IsOfLine (line_faults drafts) first (of_lines (0 ∷ []) drafts)
     (0, slice_get_within (line_faults drafts) 0 first is, get_or_from_slice_get (line_faults drafts) 0 first first is)
 
 -- the answer that names a fault
-abbrev IsFaultAnswer : List ℕ → TextFault → Type 0
+abbrev pub IsFaultAnswer : List ℕ → TextFault → Type 0
 IsFaultAnswer text first = HasFault text first → IsAnswer text (Err first)
 
 of_line_answer : (text : List ℕ) (first : TextFault) → IsOfLine first → IsFaultAnswer text first
@@ -67,18 +67,18 @@ of_line_answer text (fault.BadToken line) is has = absurd is
 of_line_answer text fault.FileTooLong is has = absurd is
 of_line_answer text fault.NoMemory is has = absurd is
 
--- one element in front of others that it comes before
-first_in_front : (first : TextFault) (faults : List TextFault) → All (ComesBy first) faults → IsFirst first (first ∷ faults)
-first_in_front first faults least = record {
+-- one element before others that it comes before
+first_prepended : (first : TextFault) (faults : List TextFault) → All (ComesBy first) faults → IsFirst first (first ∷ faults)
+first_prepended first faults least = record {
   one = (0, omega arith, refl);
   least = All-cons (ComesBy first) first faults (inr (refl, omega arith)) least;
 }
 
--- one more in front that it comes before
-first_behind : (first front : TextFault) (faults : List TextFault) → ComesBy first front → IsFirst first faults → IsFirst first (front ∷ faults)
-first_behind first front faults by is = record {
+-- one more element before them that it comes before
+first_after : (first prefix : TextFault) (faults : List TextFault) → ComesBy first prefix → IsFirst first faults → IsFirst first (prefix ∷ faults)
+first_after first prefix faults by is = record {
   one = (suc is.one.0, omega (arith, is.one.1), is.one.2);
-  least = All-cons (ComesBy first) front faults by is.least;
+  least = All-cons (ComesBy first) prefix faults by is.least;
 }
 
 -- a bad token comes by what doesn't name an earlier line
@@ -97,12 +97,12 @@ beside_token : (text : List ℕ) (line : ℕ) (drafts : List Draft) (found first
 beside_token text line drafts found first ascend head true before is =
     let of_line = head_of_line drafts found head in
     subst (λ (f : TextFault). IsFirst f (fault.BadToken line ∷ line_faults drafts) × IsFaultAnswer text f) (same_Some found first is)
-    (first_behind found (fault.BadToken line) (line_faults drafts) (inl (before_line found line of_line before)) (head_first drafts found ascend head), of_line_answer text found of_line)
+    (first_after found (fault.BadToken line) (line_faults drafts) (inl (before_line found line of_line before)) (head_first drafts found ascend head), of_line_answer text found of_line)
 beside_token text line drafts found first ascend head false before is =
     let of_line = head_of_line drafts found head in
     let reaches = not_before_line found line of_line before in
     subst (λ (f : TextFault). IsFirst f (fault.BadToken line ∷ line_faults drafts) × IsFaultAnswer text f) (same_Some (fault.BadToken line) first is)
-    (first_in_front (fault.BadToken line) (line_faults drafts) (All-weaker (ComesBy found) (ComesBy (fault.BadToken line)) (token_by line found reaches) (line_faults drafts) (head_first drafts found ascend head).least), λ (has : HasFault text (fault.BadToken line)). has)
+    (first_prepended (fault.BadToken line) (line_faults drafts) (All-weaker (ComesBy found) (ComesBy (fault.BadToken line)) (token_by line found reaches) (line_faults drafts) (head_first drafts found ascend head).least), λ (has : HasFault text (fault.BadToken line)). has)
 
 -- one of two faults
 one_is_named : (found : TextFault) (line : ℕ) (b : Bool) → (if b then Some found else Some (fault.BadToken line)) ≡ None → ⊥
@@ -115,13 +115,13 @@ nil_from_slice_get [] none = refl
 nil_from_slice_get (first ∷ faults) none = absurd (cc)
 
 -- a reading that stops without a bad token is at the text's end
-stopped_at_end : (before : List Lexeme) (rest : List ℕ) (bad : Option ℕ) → Stops before rest bad → bad ≡ None → rest ≡ []
+pub stopped_at_end : (before : List Lexeme) (rest : List ℕ) (bad : Option ℕ) → Stops before rest bad → bad ≡ None → rest ≡ []
 stopped_at_end before rest bad (at_end _) none = refl
 stopped_at_end before rest bad (at_no_lexeme _ _ _ _) none = absurd (cc)
 stopped_at_end before rest bad (at_misfit _ _ _ _ _ _) none = absurd (cc)
 
 -- the fault that is named is the first
-named_is_first : (text : List ℕ) (bad : Option ℕ) (drafts : List Draft) (found : Option TextFault) (first : TextFault) → Ascend drafts
+pub named_is_first : (text : List ℕ) (bad : Option ℕ) (drafts : List Draft) (found : Option TextFault) (first : TextFault) → Ascend drafts
     → found ≡ slice_get (line_faults drafts) 0 → named bad found ≡ Some first
     → IsFirst first (token_fault bad ++ line_faults drafts) × IsFaultAnswer text first
 named_is_first text None drafts found first ascend head is =
@@ -130,11 +130,11 @@ named_is_first text None drafts found first ascend head is =
 named_is_first text (Some line) drafts None first ascend head is =
     let none : line_faults drafts ≡ [] = nil_from_slice_get (line_faults drafts) (sym head) in
     subst (λ (f : TextFault). IsFirst f (fault.BadToken line ∷ line_faults drafts) × IsFaultAnswer text f) (same_Some (fault.BadToken line) first is)
-    (subst (λ (faults : List TextFault). IsFirst (fault.BadToken line) (fault.BadToken line ∷ faults)) (sym none) (first_in_front (fault.BadToken line) [] (All-nil (ComesBy (fault.BadToken line)))), λ (has : HasFault text (fault.BadToken line)). has)
+    (subst (λ (faults : List TextFault). IsFirst (fault.BadToken line) (fault.BadToken line ∷ faults)) (sym none) (first_prepended (fault.BadToken line) [] (All-nil (ComesBy (fault.BadToken line)))), λ (has : HasFault text (fault.BadToken line)). has)
 named_is_first text (Some line) drafts (Some found) first ascend head is =
     beside_token text line drafts found first ascend (sym head) (is_before found line) refl is
 
-none_named : (bad : Option ℕ) (drafts : List Draft) (found : Option TextFault) → found ≡ slice_get (line_faults drafts) 0 → named bad found ≡ None
+pub none_named : (bad : Option ℕ) (drafts : List Draft) (found : Option TextFault) → found ≡ slice_get (line_faults drafts) 0 → named bad found ≡ None
     → (bad ≡ None) × (line_faults drafts ≡ [])
 none_named None drafts found head is = (refl, nil_from_slice_get (line_faults drafts) (sym head ∙ is))
 none_named (Some line) drafts None head is = absurd (cc)
@@ -168,7 +168,7 @@ lines_answer text reading found lines fits read head is made =
       made = made ∙ ap (λ (ds : List Draft). map line_from ds) read.drafts;
     }
 
--- what is answered is the only answer
+-- the answer is the only answer
 pub only_answer : (text : List ℕ) (result : Result (List Line) TextFault) → (result ≡ Err fault.NoMemory) ⊎ IsAnswer text result
     → (answer : Result (List Line) TextFault) → IsAnswer text answer → (result ≡ Err fault.NoMemory) ⊎ (result ≡ answer)
 only_answer text result (inl out) answer is = inl out

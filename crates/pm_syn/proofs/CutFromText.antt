@@ -1,4 +1,4 @@
--- That the logical lines of a text are cut from it.
+-- Proof that the logical lines of a text are cut from it.
 use Rattle.std.proofs.Common.{◌≡◌, ◌<◌, ◌≤◌, ◌+◌, ℕ, Bool, true, false, if◌then◌else◌, List, [], ◌∷◌, ◌++◌, suc, map, length, take, drop, arith, refl, sym, ap, subst, ◌∙◌, append-nil, append_assoc}
 use Rattle.std.specs.Prelude.{All, Option, None, Some}
 use Rattle.std.specs.List.{AllPairs, between, flat_map}
@@ -12,8 +12,8 @@ use Rattle.std.proofs.lemmas.List.Quantifiers.{all_pairs_push}
 use Rattle.pm_syn.specs.CutLines.{AreCutFrom, IsCutFrom, IsLineOf}
 use Rattle.pm_syn.specs.Laws.{LinesAreCutFromTheText}
 use Rattle.pm_syn.specs.Lexemes.{HasWidth, Lexeme, Stands}
-use Rattle.pm_syn.specs.LogicalLines.{begun_behind, begun_line, column_of, continued, drafts_of, ended_behind, ended_lines, indentation_of, line_from, token_of}
-use Rattle.pm_syn.specs.Places.{last_line, line_behind}
+use Rattle.pm_syn.specs.LogicalLines.{begun_after, begun_line, column_of, continued, drafts_of, ended_after, ended_lines, indentation_of, line_from, token_of}
+use Rattle.pm_syn.specs.Positions.{last_line, line_after}
 use Rattle.pm_syn.specs.Reading.{Reads, are_closed, brackets_of, bytes_of, line_of}
 use Rattle.pm_syn.specs.Tokens.{IsLongestToken}
 use Rattle.pm_syn.specs.declared.draft.Draft.{Draft}
@@ -25,9 +25,9 @@ use Rattle.pm_syn.specs.declared.token.TokenKind.{TokenKind}
 use Rattle.pm_syn.proofs.Ascending.{ascending}
 use Rattle.pm_syn.proofs.FirstBytes.{token_some}
 use Rattle.pm_syn.proofs.BlanksBefore.{IsBlank, blank_token, column_blanks}
-use Rattle.pm_syn.proofs.LineFaults.{IsFaultless, all_faultless, first_behind-faultless}
+use Rattle.pm_syn.proofs.LineFaults.{IsFaultless, all_faultless, first_after-faultless}
 use Rattle.pm_syn.proofs.OneReading.{read_nothing, read_one}
-use Rattle.pm_syn.proofs.ReadOn.{between_front}
+use Rattle.pm_syn.proofs.ReadOn.{between_prefix}
 
 -- ---- a token that is read
 
@@ -38,22 +38,22 @@ whole text (lexeme ∷ before) rest read =
     whole text before (lexeme.bytes ++ rest) (read_one text lexeme before rest read).0
     ∙ sym (append_assoc (bytes_of before) lexeme.bytes rest)
 
--- a token that stands behind some bytes is cut from them all
-token_cut : (front bytes rest : List ℕ) (kind : TokenKind) → IsLongestToken kind bytes rest → HasWidth kind
-    → IsCutFrom (front ++ (bytes ++ rest)) (record { kind = kind; text = bytes; start = length front; end = length front + length bytes })
-token_cut front bytes rest kind longest width =
-    let text : List ℕ = front ++ (bytes ++ rest) in
+-- a token that comes after some bytes is cut from them all
+token_cut : (prefix bytes rest : List ℕ) (kind : TokenKind) → IsLongestToken kind bytes rest → HasWidth kind
+    → IsCutFrom (prefix ++ (bytes ++ rest)) (record { kind = kind; text = bytes; start = length prefix; end = length prefix + length bytes })
+token_cut prefix bytes rest kind longest width =
+    let text : List ℕ = prefix ++ (bytes ++ rest) in
     let begun = token_some kind bytes rest longest.spelled in
-    let left : drop (length front) text ≡ bytes ++ rest = drop-append_seam front (bytes ++ rest) in
-    let behind : drop (length front + length bytes) text ≡ rest =
-    sym (drop-drop (length bytes) (length front) text) ∙ ap (λ (part : List ℕ). drop (length bytes) part) left ∙ drop-append_seam bytes rest in
-    let part : between (length front) (length front + length bytes) text ≡ bytes =
-    between_front (length front) (length bytes) text ∙ ap (λ (part : List ℕ). take (length bytes) part) left ∙ take-append_seam bytes rest in
+    let left : drop (length prefix) text ≡ bytes ++ rest = drop-append_seam prefix (bytes ++ rest) in
+    let after : drop (length prefix + length bytes) text ≡ rest =
+    sym (drop-drop (length bytes) (length prefix) text) ∙ ap (λ (part : List ℕ). drop (length bytes) part) left ∙ drop-append_seam bytes rest in
+    let part : between (length prefix) (length prefix + length bytes) text ≡ bytes =
+    between_prefix (length prefix) (length bytes) text ∙ ap (λ (part : List ℕ). take (length bytes) part) left ∙ take-append_seam bytes rest in
     record {
       some = omega (arith, begun);
-      within = omega (arith, length-append front (bytes ++ rest), length-append bytes rest);
+      within = omega (arith, length-append prefix (bytes ++ rest), length-append bytes rest);
       bytes = sym part;
-      longest = subst (λ (after : List ℕ). IsLongestToken kind bytes after) (sym behind) longest;
+      longest = subst (λ (after : List ℕ). IsLongestToken kind bytes after) (sym after) longest;
       width = width;
     }
 
@@ -65,9 +65,9 @@ token_read text before kind bytes rest is longest width =
 
 -- ---- the logical lines with one more lexeme
 
--- all logical lines behind one more lexeme
+-- all logical lines after one more lexeme
 abbrev pub lines_with : List Lexeme → Sort → List ℕ → List Draft
-lines_with before sort bytes = ended_behind before sort (ended_lines before) ++ option_to_list (begun_behind before bytes sort (begun_line before))
+lines_with before sort bytes = ended_after before sort (ended_lines before) ++ option_to_list (begun_after before bytes sort (begun_line before))
 
 -- a line end makes no other logical lines
 pub lines-line_end : (closed : Bool) (drafts : List Draft) (begun : Option Draft)
@@ -86,23 +86,23 @@ tokens_in drafts = flat_map (λ draft. draft.tokens) drafts
 abbrev AreInOrder : List Token → Type 0
 AreInOrder tokens = AllPairs (λ token next. token.end ≤ next.start) tokens
 
--- the token ends before this place, or at it
+-- the token ends before this position, or at it
 abbrev EndsBy : ℕ → Token → Type 0
-EndsBy place token = token.end ≤ place
+EndsBy position token = token.end ≤ position
 
--- the tokens are in order, up to this place
-record AreUpTo (place : ℕ) (tokens : List Token) : Type 0 where
+-- the tokens are in order, up to this position
+record AreUpTo (position : ℕ) (tokens : List Token) : Type 0 where
   in_order : AreInOrder tokens
-  past : All (EndsBy place) tokens
+  past : All (EndsBy position) tokens
 
 in_order_push : (tokens : List Token) (token : Token) → AreInOrder tokens → All (EndsBy token.start) tokens
     → AreInOrder (tokens ++ token ∷ [])
 in_order_push tokens token in_order past = all_pairs_push (λ token next. token.end ≤ next.start) tokens token in_order past
 
-later : (place next : ℕ) (tokens : List Token) → place ≤ next → AreUpTo place tokens → AreUpTo next tokens
-later place next tokens more are = record {
+later : (position next : ℕ) (tokens : List Token) → position ≤ next → AreUpTo position tokens → AreUpTo next tokens
+later position next tokens more are = record {
   in_order = are.in_order;
-  past = All-weaker (EndsBy place) (EndsBy next) (λ token ends. omega (arith, ends, more)) tokens are.past;
+  past = All-weaker (EndsBy position) (EndsBy next) (λ token ends. omega (arith, ends, more)) tokens are.past;
 }
 
 one_more : (tokens : List Token) (token : Token) → token.start ≤ token.end → AreUpTo token.start tokens
@@ -112,12 +112,12 @@ one_more tokens token some are = record {
   past = All-push (EndsBy token.end) tokens token (later token.start token.end tokens some are).past (omega arith);
 }
 
--- a token is put behind all others
+-- a token is put after all others
 pub tokens-continued : (line : ℕ) (indent : List ℕ) (drafts : List Draft) (begun : Option Draft) (token : Token)
     → tokens_in (drafts ++ continued line indent begun token ∷ []) ≡ tokens_in (drafts ++ option_to_list begun) ++ token ∷ []
 tokens-continued line indent drafts None token =
     flat_map-append (λ draft. draft.tokens) drafts (continued line indent None token ∷ [])
-    ∙ ap (λ (front : List Draft). tokens_in front ++ token ∷ []) (sym (append-nil drafts))
+    ∙ ap (λ (prefix : List Draft). tokens_in prefix ++ token ∷ []) (sym (append-nil drafts))
 tokens-continued line indent drafts (Some draft) token =
     flat_map-append (λ draft. draft.tokens) drafts (continued line indent (Some draft) token ∷ [])
     ∙ simp (append-nil, append_assoc, flat_map-append)
@@ -137,18 +137,18 @@ order_with before (sort.Token kind) bytes are =
 order : (before : List Lexeme) → AreUpTo (length (bytes_of before)) (tokens_in (drafts_of before))
 order [] = record { in_order = λ i j token less within. absurd (omega (arith, within)); past = All-nil (EndsBy 0) }
 order (lexeme ∷ before) =
-    subst (λ (place : ℕ). AreUpTo place (tokens_in (drafts_of (lexeme ∷ before)))) (sym (length-append (bytes_of before) lexeme.bytes)) (
+    subst (λ (position : ℕ). AreUpTo position (tokens_in (drafts_of (lexeme ∷ before)))) (sym (length-append (bytes_of before) lexeme.bytes)) (
     order_with before lexeme.sort lexeme.bytes (order before))
 
 -- ---- logical lines as they are read
 
 -- the logical line has tokens that are cut from the text, and its number and its indentation are those of the first
-record IsReadFrom (text : List ℕ) (draft : Draft) : Type 0 where
+pub record IsReadFrom (text : List ℕ) (draft : Draft) : Type 0 where
   first : Token
   others : List Token
   tokens : draft.tokens ≡ first ∷ others
-  cut : All (IsCutFrom text) draft.tokens
-  number : draft.number ≡ line_behind (take first.start text)
+  pub cut : All (IsCutFrom text) draft.tokens
+  number : draft.number ≡ line_after (take first.start text)
   indentation : draft.indentation ≡ indentation_of (last_line (take first.start text))
   blanks : All IsBlank (last_line (take first.start text))
 
@@ -157,16 +157,16 @@ begins : (text : List ℕ) (before : List Lexeme) (kind : TokenKind) (bytes rest
     → IsCutFrom text (token_of before kind bytes) → All IsBlank (last_line (bytes_of before))
     → IsReadFrom text (continued (line_of before) (last_line (bytes_of before)) None (token_of before kind bytes))
 begins text before kind bytes rest is cut blanks =
-    let front : take (length (bytes_of before)) text ≡ bytes_of before =
+    let prefix : take (length (bytes_of before)) text ≡ bytes_of before =
     ap (λ (all : List ℕ). take (length (bytes_of before)) all) is ∙ take-append_seam (bytes_of before) (bytes ++ rest) in
     record {
       first = token_of before kind bytes;
       others = [];
       tokens = refl;
       cut = All-cons (IsCutFrom text) (token_of before kind bytes) [] cut (All-nil (IsCutFrom text));
-      number = ap line_behind (sym front);
-      indentation = ap (λ (part : List ℕ). indentation_of (last_line part)) (sym front);
-      blanks = subst (λ (part : List ℕ). All IsBlank (last_line part)) (sym front) blanks;
+      number = ap line_after (sym prefix);
+      indentation = ap (λ (part : List ℕ). indentation_of (last_line part)) (sym prefix);
+      blanks = subst (λ (part : List ℕ). All IsBlank (last_line part)) (sym prefix) blanks;
     }
 
 -- another token
@@ -205,7 +205,7 @@ read_with text before (sort.Token kind) bytes rest read stands are =
     All-push (IsReadFrom text) (ended_lines before) draft parts.0 (
     read_token text before kind bytes rest is cut (begun_line before) (blank_token text before kind bytes rest read stands) parts.1)
 
-all_read : (text : List ℕ) (before : List Lexeme) (rest : List ℕ) → Reads text before rest → All (IsReadFrom text) (drafts_of before)
+pub all_read : (text : List ℕ) (before : List Lexeme) (rest : List ℕ) → Reads text before rest → All (IsReadFrom text) (drafts_of before)
 all_read text [] rest read = All-nil (IsReadFrom text)
 all_read text (lexeme ∷ before) rest read =
     let last = read_one text lexeme before rest read in
@@ -241,7 +241,7 @@ pub lines_cut : LinesAreCutFromTheText
 lines_cut text lines is =
     let drafts : List Draft = drafts_of is.lexemes in
     let read = all_read text is.lexemes [] is.read in
-    let faultless = all_faultless (0 ∷ []) drafts (first_behind-faultless drafts is.faultless) in
+    let faultless = all_faultless (0 ∷ []) drafts (first_after-faultless drafts is.faultless) in
     let each : All (λ draft. IsLineOf text (line_from draft)) drafts =
     λ k d within. line_cut text _ (read k d within) (faultless k d within) in
     subst (AreCutFrom text) (sym is.made) (record {

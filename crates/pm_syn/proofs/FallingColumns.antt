@@ -1,17 +1,17 @@
--- That the columns of a stack fall, so that no more than one stack stands behind a line.
+-- Proof that the columns of a stack fall, so that no more than one stack comes after a line.
 use Rattle.std.proofs.Common.{◌≡◌, ◌∙◌, ◌<◌, ℕ, Bool, true, false, List, [], ◌∷◌, ◌++◌, refl, ap, sym, subst, arith, append_assoc}
 use Rattle.std.specs.Prelude.{◌||◌, ◌==◌, nat_lt, if◌then◌else◌, reverse}
 use Rattle.std.proofs.lemmas.Bool.Decides.{nat_tests}
 use Rattle.std.proofs.lemmas.Grind.{reverse_onto}
-use Rattle.pm_syn.specs.ColumnStack.{is_nearest, down_to, behind_column}
+use Rattle.pm_syn.specs.ColumnStack.{is_nearest, down_to, after_column}
 use Rattle.pm_syn.specs.Indentation.{is_column, is_deeper, returns_to}
 use Rattle.pm_syn.specs.IndentedLines.{AreStacked, nothing, pushed, popped}
 use Rattle.pm_syn.specs.Laws.{ColumnsAreThoseOfAStack}
-use Rattle.pm_syn.proofs.IndentedLines.{stacked_behind}
-use Rattle.pm_syn.proofs.StackedColumns.{StandsFor, is_column-same, is_nearest-down_to, stands_behind_column, stands_for_itself}
+use Rattle.pm_syn.proofs.IndentedLines.{stacked_after}
+use Rattle.pm_syn.proofs.StackedColumns.{StandsFor, is_column-same, is_nearest-down_to, stands_after_column, stands_for_itself}
 
--- each column is greater than the one behind it
-abbrev AreFalling : List ℕ → Type 0
+-- each column is greater than the one after it
+abbrev pub AreFalling : List ℕ → Type 0
 AreFalling [] = Unit {0}
 AreFalling (nearest ∷ columns) = (is_deeper nearest columns ≡ true) × AreFalling columns
 
@@ -48,24 +48,24 @@ falling_rest : (above rest : List ℕ) → AreFalling (above ++ rest) → AreFal
 falling_rest [] rest falling = falling
 falling_rest (nearest ∷ above) rest falling = falling_rest above rest falling.1
 
--- a line may stand at this column, and the others at columns of the stack behind it, which falls too
-record StandBehind (stack : List ℕ) (column : ℕ) (columns : List ℕ) : Type 0 where
-  may : is_column column stack ≡ true
-  falling : AreFalling (behind_column column stack)
-  later : AreStacked (behind_column column stack) columns
+-- a line is allowed at this column, and the others at columns of the stack after it, which falls too
+pub record StandAfter (stack : List ℕ) (column : ℕ) (columns : List ℕ) : Type 0 where
+  pub may : is_column column stack ≡ true
+  pub falling : AreFalling (after_column column stack)
+  pub later : AreStacked (after_column column stack) columns
 
 -- a stack that falls allows a column in one way
-stand_behind : {stack columns : List ℕ} {column : ℕ} → AreFalling stack → AreStacked stack (column ∷ columns) → StandBehind stack column columns
-stand_behind falling (pushed column nearest stack columns less later) =
+pub stand_after : {stack columns : List ℕ} {column : ℕ} → AreFalling stack → AreStacked stack (column ∷ columns) → StandAfter stack column columns
+stand_after falling (pushed column nearest stack columns less later) =
     let deep : nat_lt nearest column ≡ true = grind (arith, nat_tests) in
     record {
       may = rw deep refl;
       falling = rw deep (deep, falling);
       later = rw deep later;
     }
-stand_behind falling (popped column above stack columns later) =
+stand_after falling (popped column above stack columns later) =
     let level = is_deeper-falling column above stack falling in
-    let left : behind_column column (above ++ column ∷ stack) ≡ column ∷ stack =
+    let left : after_column column (above ++ column ∷ stack) ≡ column ∷ stack =
     ap (λ (deep : Bool). if deep then column ∷ (above ++ column ∷ stack) else down_to column (above ++ column ∷ stack)) level
     ∙ down_to-falling column above stack falling in
     record {
@@ -75,30 +75,30 @@ stand_behind falling (popped column above stack columns later) =
     }
 
 -- earlier columns with one more, from the nearest
-reverse_cons-append : (next : ℕ) (columns earlier : List ℕ) → reverse (next ∷ columns) ++ earlier ≡ reverse columns ++ next ∷ earlier
+pub reverse_cons-append : (next : ℕ) (columns earlier : List ℕ) → reverse (next ∷ columns) ++ earlier ≡ reverse columns ++ next ∷ earlier
 reverse_cons-append next columns earlier =
-    ap (λ (front : List ℕ). front ++ earlier) (reverse_onto columns next []) ∙ append_assoc (reverse columns) (next ∷ []) earlier
+    ap (λ (prefix : List ℕ). prefix ++ earlier) (reverse_onto columns next []) ∙ append_assoc (reverse columns) (next ∷ []) earlier
 
 -- the stack allows the column where the nearest earlier lines do
 stack_allows : (columns : List ℕ) (column : ℕ) {stack earlier : List ℕ} {former : ℕ} → StandsFor stack (former ∷ earlier) → AreFalling stack
     → AreStacked stack columns → is_column column (reverse columns ++ former ∷ earlier) ≡ true → AreStacked stack (columns ++ column ∷ [])
 stack_allows [] column {stack} stands falling are may =
     let may_too = is_column-same stands column ∙ may in
-    stacked_behind stands column [] may_too (nothing (behind_column column stack))
+    stacked_after stands column [] may_too (nothing (after_column column stack))
 stack_allows (next ∷ columns) column {earlier} {former} stands falling are may =
-    let behind = stand_behind falling are in
-    let may_behind = ap (is_column column) (sym (reverse_cons-append next columns (former ∷ earlier))) ∙ may in
-    stacked_behind stands next (columns ++ column ∷ []) behind.may (
-    stack_allows columns column (stands_behind_column stands next behind.may) behind.falling behind.later may_behind)
+    let after = stand_after falling are in
+    let may_after = ap (is_column column) (sym (reverse_cons-append next columns (former ∷ earlier))) ∙ may in
+    stacked_after stands next (columns ++ column ∷ []) after.may (
+    stack_allows columns column (stands_after_column stands next after.may) after.falling after.later may_after)
 
 -- the nearest earlier lines allow the column where the stack does
 lines_allow : (columns : List ℕ) (column : ℕ) {stack earlier : List ℕ} {former : ℕ} → StandsFor stack (former ∷ earlier) → AreFalling stack
     → AreStacked stack (columns ++ column ∷ []) → is_column column (reverse columns ++ former ∷ earlier) ≡ true
-lines_allow [] column stands falling are = sym (is_column-same stands column) ∙ (stand_behind falling are).may
+lines_allow [] column stands falling are = sym (is_column-same stands column) ∙ (stand_after falling are).may
 lines_allow (next ∷ columns) column {earlier} {former} stands falling are =
-    let behind = stand_behind falling are in
+    let after = stand_after falling are in
     ap (is_column column) (reverse_cons-append next columns (former ∷ earlier))
-    ∙ lines_allow columns column (stands_behind_column stands next behind.may) behind.falling behind.later
+    ∙ lines_allow columns column (stands_after_column stands next after.may) after.falling after.later
 
 -- the stack allows the columns that the nearest earlier lines allow, and no others
 pub columns_of_stack : ColumnsAreThoseOfAStack

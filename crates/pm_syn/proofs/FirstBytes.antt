@@ -1,5 +1,5 @@
 -- With which bytes gaps, line ends and tokens begin.
-use Rattle.std.proofs.Common.{◌≡◌, ◌==◌, ◌&&◌, ◌||◌, ◌∙◌, ◌⊎◌, ℕ, suc, ◌+◌, ◌<◌, Bool, true, false, not, List, [], ◌∷◌, ◌++◌, length, if◌then◌else◌, Option, Some, None, inl, inr, refl, ap, sym, subst, arith}
+use Rattle.std.proofs.Common.{◌≡◌, ◌==◌, ◌&&◌, ◌||◌, ◌∙◌, ◌⊎◌, ℕ, suc, ◌+◌, ◌<◌, Bool, true, false, not, List, [], ◌∷◌, ◌++◌, length, drop, if◌then◌else◌, Option, Some, None, inl, inr, refl, ap, sym, subst, arith}
 use Rattle.std.specs.Prelude.{option_map, All}
 use Rattle.std.specs.Char.{is_ascii_digit, is_digit}
 use Rattle.std.specs.List.{list_any, list_all}
@@ -7,12 +7,11 @@ use Rattle.std.specs.Str.{bytes_eq}
 use Rattle.std.proofs.lemmas.Bool.{eqb-true, and_parts, or_cases, or_parts, not-true, false≢true, false_from_ne_true, cond-false}
 use Rattle.std.proofs.lemmas.Bool.Decides.{nat_tests}
 use Rattle.std.proofs.lemmas.List.Elements.{All-head}
-use Rattle.std.proofs.lemmas.Option.{cond_some}
 use Rattle.pm_io.specs.declared.lines.TheConstants.{LF, CR}
 use Rattle.pm_syn.specs.Bytes.{begins_name, continues_name}
 use Rattle.pm_syn.specs.Numbers.{IsLiteral}
 use Rattle.pm_syn.specs.Operators.{is_operator, one_byte, two_bytes, three_bytes}
-use Rattle.pm_syn.specs.Strings.{string_length, quoted_length, is_prefix, is_quote, closing_quote, closing_quotes}
+use Rattle.pm_syn.specs.Strings.{are_two_more, length_from, string_length, quoted_length, is_prefix, is_quote, closing_quote, closing_quotes}
 use Rattle.pm_syn.specs.Names.{is_spelled_as_name}
 use Rattle.pm_syn.specs.Tokens.{IsToken}
 use Rattle.pm_syn.specs.Lexemes.{Stands}
@@ -32,7 +31,7 @@ abbrev begins_line_end : ℕ → Bool
 begins_line_end byte = byte == LF || byte == CR
 
 -- a byte with which a gap or a line end begins
-abbrev is_layout : ℕ → Bool
+abbrev pub is_layout : ℕ → Bool
 is_layout byte = begins_gap byte || begins_line_end byte
 
 -- a byte with which no gap, no line end and no token but an operator begins
@@ -107,7 +106,7 @@ pub name_continues : (a : ℕ) → begins_name a ≡ true → continues_name a �
 name_continues a name = grind (arith, nat_tests)
 
 prefix_begins_name : (a : ℕ) → is_prefix a ≡ true → begins_name a ≡ true
-prefix_begins_name a front = grind (arith, nat_tests)
+prefix_begins_name a prefix = grind (arith, nat_tests)
 
 quote_no_digit : (a : ℕ) → is_quote a ≡ true → is_ascii_digit a ≡ true → ⊥
 quote_no_digit a quote digit = grind (arith, nat_tests)
@@ -123,30 +122,27 @@ layout_no_quote a layout quote = grind (arith, nat_tests)
 
 -- ---- strings
 
+-- more bytes than none
+some_more : (count : ℕ) (found : Option ℕ) (n : ℕ) → option_map (λ k. k + suc count) found ≡ Some n → 0 < n
+some_more count None n same = cc
+some_more count (Some k) n same = let sum : k + suc count ≡ n = cc in omega (arith, sum)
+
+-- a string from its first quote on isn't empty
+length_from_some : (quote : ℕ) (text : List ℕ) (n : ℕ) → length_from quote text ≡ Some n → 0 < n
+length_from_some quote text n is = go (are_two_more quote text) is where
+  go : (three : Bool)
+      → (if three then option_map (λ k. k + 3) (closing_quotes quote (drop 2 text)) else option_map (λ k. k + 1) (closing_quote quote text)) ≡ Some n → 0 < n
+  go true same = some_more 2 (closing_quotes quote (drop 2 text)) n same
+  go false same = some_more 0 (closing_quote quote text) n same
+
 -- a quoted string begins with a quote, and isn't empty
 quoted_begins : (a : ℕ) (bytes : List ℕ) (n : ℕ) → quoted_length (a ∷ bytes) ≡ Some n → (is_quote a ≡ true) × (0 < n)
-quoted_begins a [] n is = cc
-quoted_begins a (b ∷ []) n is =
-    let parts = cond_some (is_quote a && b == a) 2 n is in
-    let two : 2 ≡ n = parts.1 in
-    ((and_parts (is_quote a) (b == a) parts.0).0, omega (arith, two))
-quoted_begins a (b ∷ c ∷ bytes) n is = go (is_quote a) refl is where
-  more : (count : ℕ) (found : Option ℕ) → option_map (λ k. k + suc count) found ≡ Some n → 0 < n
-  more count None same = cc
-  more count (Some k) same = let sum : k + suc count ≡ n = cc in omega (arith, sum)
-
-  inside : (three : Bool)
-      → (if three then option_map (λ k. k + 3) (closing_quotes a bytes) else option_map (λ k. k + 1) (closing_quote a (b ∷ c ∷ bytes))) ≡ Some n → 0 < n
-  inside true same = more 2 (closing_quotes a bytes) same
-  inside false same = more 0 (closing_quote a (b ∷ c ∷ bytes)) same
-
-  go : (quote : Bool) → is_quote a ≡ quote
-      → (if not quote then None else if b == a && c == a then option_map (λ k. k + 3) (closing_quotes a bytes) else option_map (λ k. k + 1) (closing_quote a (b ∷ c ∷ bytes))) ≡ Some n
-      → (is_quote a ≡ true) × (0 < n)
-  go true quoted same = (quoted, inside (b == a && c == a) same)
+quoted_begins a bytes n is = go (is_quote a) refl is where
+  go : (quote : Bool) → is_quote a ≡ quote → (if quote then length_from a bytes else None) ≡ Some n → (is_quote a ≡ true) × (0 < n)
+  go true quoted same = (quoted, length_from_some a bytes n same)
   go false quoted same = cc
 
--- what begins with a prefix and is a string goes on with a quote
+-- what begins with a prefix and is a string continues with a quote
 prefixed_goes_on : (a : ℕ) (bytes : List ℕ) (n : ℕ) → is_prefix a ≡ true → string_length (a ∷ bytes) ≡ Some n
     → (b : ℕ) × (others : List ℕ) × (bytes ≡ b ∷ others) × (is_quote b ≡ true) × (1 < n)
 prefixed_goes_on a [] n prefixed is = let none : ◌≡◌ {A = Option ℕ} None (Some n) = rw prefixed at is in cc
@@ -185,14 +181,14 @@ mark_no_string a bytes n mark is = elim (string_begins a bytes n is) [ inl name 
 layout_no_string : (a : ℕ) (bytes : List ℕ) (n : ℕ) → is_layout a ≡ true → string_length (a ∷ bytes) ≡ Some n → ⊥
 layout_no_string a bytes n layout is = elim (string_begins a bytes n is) [ inl name ↦ layout_no_name a layout name | inr quote ↦ layout_no_quote a layout quote ]
 
--- a name at the head of a string is its prefix
+-- a name at the start of a string is its prefix
 pub name_of_string : (name rest text : List ℕ) (n : ℕ) → name ++ rest ≡ text → is_spelled_as_name name ≡ true → string_length text ≡ Some n → (length name ≡ 1) × (1 < n)
 name_of_string [] rest text n is name string = absurd (false≢true name)
 name_of_string (a ∷ others) rest text n is name string = go (is_prefix a) refl (subst (λ bytes. string_length bytes ≡ Some n) (sym is) string) where
-  one : (others : List ℕ) → All (λ byte. continues_name byte ≡ true) others → (b : ℕ) (behind : List ℕ) → others ++ rest ≡ b ∷ behind → is_quote b ≡ true
+  one : (others : List ℕ) → All (λ byte. continues_name byte ≡ true) others → (b : ℕ) (after : List ℕ) → others ++ rest ≡ b ∷ after → is_quote b ≡ true
       → length (a ∷ others) ≡ 1
-  one [] all b behind same quote = refl
-  one (next ∷ others) all b behind same quote =
+  one [] all b after same quote = refl
+  one (next ∷ others) all b after same quote =
       let first : next ≡ b = cc in absurd (name_no_quote next (All-head (λ byte. continues_name byte ≡ true) next others all) (rw first quote))
 
   go : (prefixed : Bool) → is_prefix a ≡ prefixed → string_length (a ∷ (others ++ rest)) ≡ Some n → (length (a ∷ others) ≡ 1) × (1 < n)
@@ -202,33 +198,33 @@ name_of_string (a ∷ others) rest text n is name string = go (is_prefix a) refl
   go false prefixed same =
       absurd (name_no_quote a (name_continues a (name_parts a others name).0) (unprefixed_begins a (others ++ rest) n prefixed same).0)
 
--- ---- the first byte of a text at whose head a token is spelled
+-- ---- the first byte of a text at whose start a token is spelled
 
-pub name_first : (a : ℕ) (others front rest : List ℕ) → front ++ rest ≡ a ∷ others → is_spelled_as_name front ≡ true → begins_name a ≡ true
+pub name_first : (a : ℕ) (others prefix rest : List ℕ) → prefix ++ rest ≡ a ∷ others → is_spelled_as_name prefix ≡ true → begins_name a ≡ true
 name_first a others [] rest is name = absurd (false≢true name)
-name_first a others (b ∷ front) rest is name = let same : b ≡ a = cc in subst (λ byte. begins_name byte ≡ true) same (name_parts b front name).0
+name_first a others (b ∷ prefix) rest is name = let same : b ≡ a = cc in subst (λ byte. begins_name byte ≡ true) same (name_parts b prefix name).0
 
 literal_some : (n : ℕ) → IsLiteral n [] → ⊥
 literal_some n (inl nought) = let spelled = nought.0 in cc
 literal_some n (inr (inl decimal)) = let spelled = decimal.spelled in cc
 literal_some n (inr (inr based)) = let spelled = based.spelled in cc
 
-pub literal_first : (n a : ℕ) (others front rest : List ℕ) → front ++ rest ≡ a ∷ others → IsLiteral n front → is_ascii_digit a ≡ true
+pub literal_first : (n a : ℕ) (others prefix rest : List ℕ) → prefix ++ rest ≡ a ∷ others → IsLiteral n prefix → is_ascii_digit a ≡ true
 literal_first n a others [] rest is literal = absurd (literal_some n literal)
-literal_first n a others (b ∷ front) rest is literal =
-    let same : b ≡ a = cc in subst (λ byte. is_ascii_digit byte ≡ true) same (literal_begins n b front literal)
+literal_first n a others (b ∷ prefix) rest is literal =
+    let same : b ≡ a = cc in subst (λ byte. is_ascii_digit byte ≡ true) same (literal_begins n b prefix literal)
 
-pub operator_first : (a : ℕ) (others front rest : List ℕ) → front ++ rest ≡ a ∷ others → is_operator front ≡ true → is_mark a ≡ true
+pub operator_first : (a : ℕ) (others prefix rest : List ℕ) → prefix ++ rest ≡ a ∷ others → is_operator prefix ≡ true → is_mark a ≡ true
 operator_first a others [] rest is operator = absurd (false≢true operator)
-operator_first a others (b ∷ front) rest is operator =
-    let same : b ≡ a = cc in subst (λ byte. is_mark byte ≡ true) same (operator_begins b front operator)
+operator_first a others (b ∷ prefix) rest is operator =
+    let same : b ≡ a = cc in subst (λ byte. is_mark byte ≡ true) same (operator_begins b prefix operator)
 
 -- no token begins as a gap or a line end does
-no_token_at_layout : (a : ℕ) (others : List ℕ) → is_layout a ≡ true → (kind : TokenKind) (front rest : List ℕ) → front ++ rest ≡ a ∷ others → IsToken kind front rest → ⊥
-no_token_at_layout a others layout kind.Name front rest is token = layout_no_name a layout (name_first a others front rest is token)
-no_token_at_layout a others layout (kind.Int n) front rest is token = layout_no_digit a layout (literal_first n a others front rest is token)
-no_token_at_layout a others layout kind.Str front rest is token = layout_no_string a others (length front) layout (rw is at token)
-no_token_at_layout a others layout kind.Op front rest is token = mark_no_layout a (operator_first a others front rest is token) layout
+pub no_token_at_layout : (a : ℕ) (others : List ℕ) → is_layout a ≡ true → (kind : TokenKind) (prefix rest : List ℕ) → prefix ++ rest ≡ a ∷ others → IsToken kind prefix rest → ⊥
+no_token_at_layout a others layout kind.Name prefix rest is token = layout_no_name a layout (name_first a others prefix rest is token)
+no_token_at_layout a others layout (kind.Int n) prefix rest is token = layout_no_digit a layout (literal_first n a others prefix rest is token)
+no_token_at_layout a others layout kind.Str prefix rest is token = layout_no_string a others (length prefix) layout (rw is at token)
+no_token_at_layout a others layout kind.Op prefix rest is token = mark_no_layout a (operator_first a others prefix rest is token) layout
 
 -- a token has a byte
 pub token_some : (kind : TokenKind) (bytes after : List ℕ) → IsToken kind bytes after → 0 < length bytes
@@ -251,9 +247,18 @@ class_of_sort sort.LineEnd = 1
 class_of_sort (sort.Token kind) = 2
 
 -- a byte that begins no gap and no line end
-other_class : (byte : ℕ) → is_layout byte ≡ false → class_of byte ≡ 2
+pub other_class : (byte : ℕ) → is_layout byte ≡ false → class_of byte ≡ 2
 other_class byte is =
     let neither = or_parts (begins_gap byte) (begins_line_end byte) is in cond-false (begins_gap byte) _ _ neither.0 ∙ cond-false (begins_line_end byte) _ _ neither.1
+
+-- what a token begins with
+pub token_begins : (kind : TokenKind) (bytes after : List ℕ) → IsToken kind bytes after
+    → (first : ℕ) × (others : List ℕ) × (bytes ≡ first ∷ others) × (class_of first ≡ 2)
+token_begins kind [] after is = absurd (let some = token_some kind [] after is in omega (arith, some))
+token_begins kind (first ∷ others) after is =
+    let other : is_layout first ≡ false =
+    false_from_ne_true (is_layout first) (λ layout. no_token_at_layout first (others ++ after) layout kind (first ∷ others) after refl is) in
+    (first, others, refl, other_class first other)
 
 -- what a lexeme begins with
 pub lexeme_begins : (sort : Sort) (bytes after : List ℕ) → Stands sort bytes after
@@ -264,18 +269,14 @@ lexeme_begins sort.Gap bytes after (inr (inr (inl comment))) = (35, comment.text
 lexeme_begins sort.Gap bytes after (inr (inr (inr joining))) = (92, joining.line_end, joining.spelled, refl)
 lexeme_begins sort.LineEnd bytes after (inl short) = (LF, [], short, refl)
 lexeme_begins sort.LineEnd bytes after (inr long) = (CR, LF ∷ [], long, refl)
-lexeme_begins (sort.Token kind) [] after is = absurd (let some = token_some kind [] after is.0.spelled in omega (arith, some))
-lexeme_begins (sort.Token kind) (first ∷ others) after is =
-    let other : is_layout first ≡ false =
-    false_from_ne_true (is_layout first) (λ layout. no_token_at_layout first (others ++ after) layout kind (first ∷ others) after refl is.0.spelled) in
-    (first, others, refl, other_class first other)
+lexeme_begins (sort.Token kind) bytes after is = token_begins kind bytes after is.0.spelled
 
--- the first byte of a text, and those behind it
+-- the first byte of a text, and those after it
 pub first_byte : (a b : ℕ) (others bytes more after : List ℕ) → a ∷ others ≡ bytes ++ after → bytes ≡ b ∷ more → (a ≡ b) × (others ≡ more ++ after)
 first_byte a b others bytes more after is spelled =
-    let same : a ∷ others ≡ b ∷ more ++ after = is ∙ ap (λ (front : List ℕ). front ++ after) spelled in (cc, cc)
+    let same : a ∷ others ≡ b ∷ more ++ after = is ∙ ap (λ (prefix : List ℕ). prefix ++ after) spelled in (cc, cc)
 
--- what a text begins with at whose head a lexeme stands
+-- what a text begins with at whose start there is a lexeme
 pub lexeme_first : (a : ℕ) (others : List ℕ) (sort : Sort) (bytes after : List ℕ) → a ∷ others ≡ bytes ++ after → Stands sort bytes after
     → class_of a ≡ class_of_sort sort
 lexeme_first a others sort bytes after is stands =

@@ -1,4 +1,4 @@
--- The longest token at the head of a text, by the first byte of the text.
+-- The longest token at the start of a text, by the first byte of the text.
 use Rattle.std.proofs.Common.{◌≡◌, ◌∙◌, ◌⊎◌, ℕ, suc, ◌<◌, ◌≤◌, ◌^◌, true, false, List, [], ◌∷◌, ◌++◌, length, take, drop, get_or, Some, None, inl, inr, refl, ap, sym, subst, arith, take-append-drop}
 use Rattle.std.specs.Prelude.{take_while, All}
 use Rattle.std.specs.Char.{is_ascii_digit}
@@ -26,11 +26,11 @@ use Rattle.pm_syn.proofs.NameBytes.{name_of_parts, name_parts}
 
 -- ---- a token of each kind
 
--- no token at the head of the text is longer
-abbrev IsLongest : List ℕ → ℕ → Type 0
-IsLongest text count = (other : TokenKind) (front rest : List ℕ) → front ++ rest ≡ text → IsToken other front rest → length front ≤ count
+-- no token at the start of the text is longer
+abbrev pub IsLongest : List ℕ → ℕ → Type 0
+IsLongest text count = (other : TokenKind) (prefix rest : List ℕ) → prefix ++ rest ≡ text → IsToken other prefix rest → length prefix ≤ count
 
--- the longest token is the head of the text
+-- the longest token is the start of the text
 token_head : (kind : TokenKind) (count : ℕ) (text : List ℕ) → 0 < count → count ≤ length text → IsToken kind (take count text) (drop count text)
     → IsLongest text count → HasWidth kind → IsHead text (record { sort = sort.Token kind; length = count })
 token_head kind count text some within spelled longest width = record {
@@ -39,24 +39,24 @@ token_head kind count text some within spelled longest width = record {
   stands = (
     record {
       spelled = spelled;
-      longest = λ other front rest is token.
-          rw (length-take-le count text within) (longest other front rest (is ∙ take-append-drop count text) token);
+      longest = λ other prefix rest is token.
+          rw (length-take-le count text within) (longest other prefix rest (is ∙ take-append-drop count text) token);
     },
     width,
   );
 }
 
 longest_string : (a : ℕ) (others : List ℕ) (count : ℕ) → string_length (a ∷ others) ≡ Some count → IsLongest (a ∷ others) count
-longest_string a others count string kind.Name front rest is token =
-    let prefix = name_of_string front rest (a ∷ others) count is token string in omega (arith, prefix.0, prefix.1)
-longest_string a others count string (kind.Int n) front rest is token = absurd (digit_no_string a others count (literal_first n a others front rest is token) string)
-longest_string a others count string kind.Str front rest is token =
-    let other : string_length (a ∷ others) ≡ Some (length front) = rw is at token in
-    let same : length front ≡ count = cc in
+longest_string a others count string kind.Name prefix rest is token =
+    let prefix = name_of_string prefix rest (a ∷ others) count is token string in omega (arith, prefix.0, prefix.1)
+longest_string a others count string (kind.Int n) prefix rest is token = absurd (digit_no_string a others count (literal_first n a others prefix rest is token) string)
+longest_string a others count string kind.Str prefix rest is token =
+    let other : string_length (a ∷ others) ≡ Some (length prefix) = rw is at token in
+    let same : length prefix ≡ count = cc in
     omega (arith, same)
-longest_string a others count string kind.Op front rest is token = absurd (mark_no_string a others count (operator_first a others front rest is token) string)
+longest_string a others count string kind.Op prefix rest is token = absurd (mark_no_string a others count (operator_first a others prefix rest is token) string)
 
--- the head of a text that begins with a string
+-- the start of a text that begins with a string
 pub string_head : (text : List ℕ) (count : ℕ) → string_length text ≡ Some count → count ≤ length text
     → IsHead text (record { sort = sort.Token kind.Str; length = count })
 string_head [] count string within = cc
@@ -65,31 +65,31 @@ string_head (a ∷ others) count string within =
     rw (take-append-drop count (a ∷ others), length-take-le count (a ∷ others) within) string in
     token_head kind.Str count (a ∷ others) (string_some (a ∷ others) count string) within spelled (longest_string a others count string) tt
 
--- the bytes of a name at the head of a text all go on with it
-name_in_front : (front rest : List ℕ) → All (λ byte. continues_name byte ≡ true) front → length front ≤ prefix_len continues_name (front ++ rest)
-name_in_front [] rest all = omega arith
-name_in_front (b ∷ front) rest all =
-    let here = All-head (λ byte. continues_name byte ≡ true) b front all in
-    let later = name_in_front front rest (All-tail (λ byte. continues_name byte ≡ true) b front all) in
+-- the bytes of a name at the start of a text all continue it
+name_in_prefix : (prefix rest : List ℕ) → All (λ byte. continues_name byte ≡ true) prefix → length prefix ≤ prefix_len continues_name (prefix ++ rest)
+name_in_prefix [] rest all = omega arith
+name_in_prefix (b ∷ prefix) rest all =
+    let here = All-head (λ byte. continues_name byte ≡ true) b prefix all in
+    let later = name_in_prefix prefix rest (All-tail (λ byte. continues_name byte ≡ true) b prefix all) in
     rw here (omega (arith, later))
 
-all_in_front : (text : List ℕ) → All (λ byte. continues_name byte ≡ true) (take (prefix_len continues_name text) text)
-all_in_front text = λ k d inside.
+all_in_prefix : (text : List ℕ) → All (λ byte. continues_name byte ≡ true) (take (prefix_len continues_name text) text)
+all_in_prefix text = λ k d inside.
     let below : k < prefix_len continues_name text = rw length-prefix_len at inside in
     rw get_or-take (prefix_len_passes continues_name text k d below)
 
 longest_name : (a : ℕ) (others : List ℕ) → string_length (a ∷ others) ≡ None → begins_name a ≡ true → IsLongest (a ∷ others) (prefix_len continues_name (a ∷ others))
 longest_name a others no_string name kind.Name [] rest is token = absurd (false≢true token)
-longest_name a others no_string name kind.Name (b ∷ front) rest is token =
-    let parts = name_parts b front token in
-    subst (λ text. length (b ∷ front) ≤ prefix_len continues_name text) is (
-    name_in_front (b ∷ front) rest (All-cons (λ byte. continues_name byte ≡ true) b front (name_continues b parts.0) parts.1))
-longest_name a others no_string name (kind.Int n) front rest is token = absurd (name_no_digit a name (literal_first n a others front rest is token))
-longest_name a others no_string name kind.Str front rest is token =
-    let other : string_length (a ∷ others) ≡ Some (length front) = rw is at token in cc
-longest_name a others no_string name kind.Op front rest is token = absurd (mark_no_name a (operator_first a others front rest is token) name)
+longest_name a others no_string name kind.Name (b ∷ prefix) rest is token =
+    let parts = name_parts b prefix token in
+    subst (λ text. length (b ∷ prefix) ≤ prefix_len continues_name text) is (
+    name_in_prefix (b ∷ prefix) rest (All-cons (λ byte. continues_name byte ≡ true) b prefix (name_continues b parts.0) parts.1))
+longest_name a others no_string name (kind.Int n) prefix rest is token = absurd (name_no_digit a name (literal_first n a others prefix rest is token))
+longest_name a others no_string name kind.Str prefix rest is token =
+    let other : string_length (a ∷ others) ≡ Some (length prefix) = rw is at token in cc
+longest_name a others no_string name kind.Op prefix rest is token = absurd (mark_no_name a (operator_first a others prefix rest is token) name)
 
--- the head of a text that begins with a name, and not with a string
+-- the start of a text that begins with a name, and not with a string
 pub name_head : (text : List ℕ) (count : ℕ) → 0 < length text → string_length text ≡ None → begins_name (get_or text 0 0) ≡ true
     → count ≡ length (take_while continues_name text) → IsHead text (record { sort = sort.Token kind.Name; length = count })
 name_head [] count some no_string name is = absurd (omega arith)
@@ -98,18 +98,18 @@ name_head (a ∷ others) count some no_string name is =
     let one_more : prefix_len continues_name (a ∷ others) ≡ suc (prefix_len continues_name others) = rw (name_continues a name) (omega arith) in
     let within : prefix_len continues_name others ≤ length others = prefix_len-le-length continues_name others in
     subst (λ n. IsHead (a ∷ others) (record { sort = sort.Token kind.Name; length = n })) (sym (whole ∙ one_more)) (
-    token_head kind.Name (suc (prefix_len continues_name others)) (a ∷ others) (omega arith) (omega (arith, within)) (name_of_parts a (take (prefix_len continues_name others) others) name (all_in_front others)) (
+    token_head kind.Name (suc (prefix_len continues_name others)) (a ∷ others) (omega arith) (omega (arith, within)) (name_of_parts a (take (prefix_len continues_name others) others) name (all_in_prefix others)) (
     subst (IsLongest (a ∷ others)) one_more (longest_name a others no_string name)) tt)
 
-longest_literal : (a : ℕ) (others : List ℕ) (literal : Literal) → string_length (a ∷ others) ≡ None → is_ascii_digit a ≡ true
+pub longest_literal : (a : ℕ) (others : List ℕ) (literal : Literal) → string_length (a ∷ others) ≡ None → is_ascii_digit a ≡ true
     → IsLongestLiteral (a ∷ others) literal → IsLongest (a ∷ others) literal.length
-longest_literal a others literal no_string digit longest kind.Name front rest is token = absurd (name_no_digit a (name_first a others front rest is token) digit)
-longest_literal a others literal no_string digit longest (kind.Int n) front rest is token = longest.longest n front rest is token
-longest_literal a others literal no_string digit longest kind.Str front rest is token =
-    let other : string_length (a ∷ others) ≡ Some (length front) = rw is at token in cc
-longest_literal a others literal no_string digit longest kind.Op front rest is token = absurd (mark_no_digit a (operator_first a others front rest is token) digit)
+longest_literal a others literal no_string digit longest kind.Name prefix rest is token = absurd (name_no_digit a (name_first a others prefix rest is token) digit)
+longest_literal a others literal no_string digit longest (kind.Int n) prefix rest is token = longest.longest n prefix rest is token
+longest_literal a others literal no_string digit longest kind.Str prefix rest is token =
+    let other : string_length (a ∷ others) ≡ Some (length prefix) = rw is at token in cc
+longest_literal a others literal no_string digit longest kind.Op prefix rest is token = absurd (mark_no_digit a (operator_first a others prefix rest is token) digit)
 
--- the head of a text that begins with a literal whose number has at most 128 bits
+-- the start of a text that begins with a literal whose number has at most 128 bits
 pub literal_head : (text : List ℕ) (literal : Literal) (number : ℕ) → 0 < length text → string_length text ≡ None → is_ascii_digit (get_or text 0 0) ≡ true
     → IsLongestLiteral text literal → literal.number ≡ Some number → IsHead text (record { sort = sort.Token (kind.Int number); length = literal.length })
 literal_head [] literal number some no_string digit longest is = absurd (omega arith)
@@ -118,7 +118,7 @@ literal_head (a ∷ others) literal number some no_string digit longest is =
     token_head (kind.Int number) literal.length (a ∷ others) longest.some longest.within (
     rw read.1 longest.spelled) (longest_literal a others literal no_string digit longest) (omega (arith, read.0, read.1))
 
--- no token stands where the number of the longest literal has more bits
+-- there is no token where the number of the longest literal has more bits
 pub no_token_at_wide : (text : List ℕ) (literal : Literal) → 0 < length text → string_length text ≡ None → is_ascii_digit (get_or text 0 0) ≡ true
     → IsLongestLiteral text literal → literal.number ≡ None → HasNoToken text
 no_token_at_wide [] literal some no_string digit longest is kind bytes after text token width = absurd (omega arith)
@@ -140,19 +140,19 @@ no_token_at_wide (a ∷ others) literal some no_string digit longest is kind.Str
 no_token_at_wide (a ∷ others) literal some no_string digit longest is kind.Op bytes after text token width =
     mark_no_digit a (operator_first a others bytes after (sym text) token.spelled) digit
 
--- the head of a text that begins with an operator
+-- the start of a text that begins with an operator
 pub operator_head : (text : List ℕ) (count : ℕ) → 0 < length text → string_length text ≡ None → begins_name (get_or text 0 0) ≡ false
     → is_ascii_digit (get_or text 0 0) ≡ false → IsLongestOperator text count → IsHead text (record { sort = sort.Token kind.Op; length = count })
 operator_head [] count some no_string no_name no_digit longest = absurd (omega arith)
 operator_head (a ∷ others) count some no_string no_name no_digit longest =
     token_head kind.Op count (a ∷ others) longest.some longest.within longest.spelled go tt where
       go : IsLongest (a ∷ others) count
-      go kind.Name front rest is token = absurd (false≢true (sym no_name ∙ name_first a others front rest is token))
-      go (kind.Int n) front rest is token = absurd (false≢true (sym no_digit ∙ literal_first n a others front rest is token))
-      go kind.Str front rest is token = let other : string_length (a ∷ others) ≡ Some (length front) = rw is at token in cc
-      go kind.Op front rest is token = longest.longest front rest is token
+      go kind.Name prefix rest is token = absurd (false≢true (sym no_name ∙ name_first a others prefix rest is token))
+      go (kind.Int n) prefix rest is token = absurd (false≢true (sym no_digit ∙ literal_first n a others prefix rest is token))
+      go kind.Str prefix rest is token = let other : string_length (a ∷ others) ≡ Some (length prefix) = rw is at token in cc
+      go kind.Op prefix rest is token = longest.longest prefix rest is token
 
--- no token stands where no string, name, number or operator does
+-- there is no token where there is no string, name, number or operator
 pub no_token_at_none : (text : List ℕ) → 0 < length text → string_length text ≡ None → begins_name (get_or text 0 0) ≡ false
     → is_ascii_digit (get_or text 0 0) ≡ false → HasNoOperator text → HasNoToken text
 no_token_at_none [] some no_string no_name no_digit none kind bytes after text token width = absurd (omega arith)
@@ -164,9 +164,9 @@ no_token_at_none (a ∷ others) some no_string no_name no_digit none kind.Str by
     let other : string_length (a ∷ others) ≡ Some (length bytes) = subst (λ all. string_length all ≡ Some (length bytes)) (sym text) token.spelled in cc
 no_token_at_none (a ∷ others) some no_string no_name no_digit none kind.Op bytes after text token width = none bytes after (sym text) token.spelled
 
--- ---- where no lexeme stands
+-- ---- where there is no lexeme
 
--- no lexeme stands where no line end stands behind a backslash
+-- there is no lexeme at a backslash without a line end after it
 pub no_head_at_backslash : (text : List ℕ) → 0 < length text → get_or text 0 0 ≡ 92
     → ((bytes after : List ℕ) → drop 1 text ≡ bytes ++ after → IsLineEnd bytes → ⊥) → HasNoHead text
 no_head_at_backslash [] some first none lexeme after is stands = absurd (omega arith)
@@ -181,7 +181,7 @@ no_head_at_backslash (a ∷ others) some first none lexeme after is stands =
       go sort.LineEnd bytes is line_end class = omega (arith, class)
       go (sort.Token kind) bytes is token class = omega (arith, class)
 
--- no lexeme stands where a text begins as a line end does, and none stands there
+-- there is no lexeme where a text begins as a line end does and has none there
 pub no_head_at_line_end : (text : List ℕ) → 0 < length text → (get_or text 0 0 ≡ LF) ⊎ (get_or text 0 0 ≡ CR)
     → ((bytes after : List ℕ) → text ≡ bytes ++ after → IsLineEnd bytes → ⊥) → HasNoHead text
 no_head_at_line_end [] some first none lexeme after is stands = absurd (omega arith)

@@ -4,7 +4,7 @@ use Rattle.std.specs.Prelude.{◌==◌, ◌||◌, if◌then◌else◌}
 use Rattle.std.proofs.lemmas.Bool.Decides.{nat_tests}
 use Rattle.std.proofs.lemmas.List.{length-append, length-take-le, take_more}
 use Rattle.pm_io.specs.declared.lines.TheConstants.{LF}
-use Rattle.pm_syn.specs.Places.{line_ends, has_line_end, last_line}
+use Rattle.pm_syn.specs.Positions.{line_ends, has_line_end, last_line}
 
 pub line_ends-append : (xs ys : List ℕ) → line_ends (xs ++ ys) ≡ line_ends xs + line_ends ys
 line_ends-append [] ys = omega arith
@@ -14,7 +14,7 @@ line_ends-append (x ∷ xs) ys =
     let shown : ends + line_ends (xs ++ ys) ≡ (ends + line_ends xs) + line_ends ys = omega arith in
     shown
 
--- behind a line end there is one
+-- after a line end there is one
 has_line_end-append_some : (xs ys : List ℕ) → has_line_end ys ≡ true → has_line_end (xs ++ ys) ≡ true
 has_line_end-append_some [] ys some = some
 has_line_end-append_some (x ∷ xs) ys some =
@@ -33,7 +33,7 @@ last_line_none : (xs : List ℕ) → has_line_end xs ≡ false → last_line xs 
 last_line_none [] none = refl
 last_line_none (x ∷ xs) none = ap (λ (ends : Bool). if ends then last_line xs else x ∷ xs) none
 
--- a line that ends in the second part leaves what stands behind it there
+-- a line that ends in the second part leaves what comes after it there
 pub last_line-append_some : (xs ys : List ℕ) → has_line_end ys ≡ true → last_line (xs ++ ys) ≡ last_line ys
 last_line-append_some [] ys some = refl
 last_line-append_some (x ∷ xs) ys some =
@@ -70,20 +70,20 @@ last_line_within (x ∷ xs) =
       | false ↦ omega arith
     ]
 
--- where the last line starts behind bytes that stand at a place of the line that starts there
-abbrev pub start_behind : ℕ → ℕ → List ℕ → ℕ
-start_behind start at xs = if has_line_end xs then at + (length xs - length (last_line xs)) else start
+-- where the last line starts after bytes that are at a position of the line that starts there
+abbrev pub start_after : ℕ → ℕ → List ℕ → ℕ
+start_after start at xs = if has_line_end xs then at + (length xs - length (last_line xs)) else start
 
 -- one more byte that ends a line
-start_behind-end : (start at : ℕ) (xs : List ℕ) (x : ℕ) → x ≡ LF → start_behind start at (xs ++ x ∷ []) ≡ at + length xs + 1
-start_behind-end start at xs x is =
+start_after-end : (start at : ℕ) (xs : List ℕ) (x : ℕ) → x ≡ LF → start_after start at (xs ++ x ∷ []) ≡ at + length xs + 1
+start_after-end start at xs x is =
     let ends : has_line_end (x ∷ []) ≡ true = ap (λ (test : Bool). test || false) (eq-eqb x LF is) in
     let none : last_line (x ∷ []) ≡ [] = ap (λ (test : Bool). if test then [] else x ∷ []) ends in
     rw (has_line_end-append_some xs (x ∷ []) ends, last_line-append_some xs (x ∷ []) ends, none) (omega (arith, length-append xs (x ∷ [])))
 
 -- one more byte that ends no line
-start_behind-other : (start at : ℕ) (xs : List ℕ) (x : ℕ) → x ≢ LF → start_behind start at (xs ++ x ∷ []) ≡ start_behind start at xs
-start_behind-other start at xs x other =
+start_after-other : (start at : ℕ) (xs : List ℕ) (x : ℕ) → x ≢ LF → start_after start at (xs ++ x ∷ []) ≡ start_after start at xs
+start_after-other start at xs x other =
     let none : has_line_end (x ∷ []) ≡ false = grind (arith, nat_tests) in
     let within = last_line_within xs in
     rw (has_line_end-append_none xs (x ∷ []) none, last_line-append_none xs (x ∷ []) none)
@@ -110,14 +110,14 @@ module _ (xs : List ℕ) (count : ℕ) (within : count < length xs) where
   pub line_ends-take_other : get_or xs count 0 ≢ LF → line_ends (take (count + 1) xs) ≡ line_ends (take count xs)
   line_ends-take_other other = ap line_ends (take_more xs count 0 within) ∙ line_ends-other (take count xs) (get_or xs count 0) other
 
-  pub start_behind-take_end : (start at : ℕ) → get_or xs count 0 ≡ LF → start_behind start at (take (count + 1) xs) ≡ at + count + 1
-  start_behind-take_end start at is =
+  pub start_after-take_end : (start at : ℕ) → get_or xs count 0 ≡ LF → start_after start at (take (count + 1) xs) ≡ at + count + 1
+  start_after-take_end start at is =
       let inside : count ≤ length xs = omega arith in
-      ap (λ (front : List ℕ). start_behind start at front) (take_more xs count 0 within)
-      ∙ (start_behind-end start at (take count xs) (get_or xs count 0) is
+      ap (λ (prefix : List ℕ). start_after start at prefix) (take_more xs count 0 within)
+      ∙ (start_after-end start at (take count xs) (get_or xs count 0) is
       ∙ ap (λ (n : ℕ). at + n + 1) (length-take-le count xs inside))
 
-  pub start_behind-take_other : (start at : ℕ) → get_or xs count 0 ≢ LF → start_behind start at (take (count + 1) xs) ≡ start_behind start at (take count xs)
-  start_behind-take_other start at other =
-      ap (λ (front : List ℕ). start_behind start at front) (take_more xs count 0 within)
-      ∙ start_behind-other start at (take count xs) (get_or xs count 0) other
+  pub start_after-take_other : (start at : ℕ) → get_or xs count 0 ≢ LF → start_after start at (take (count + 1) xs) ≡ start_after start at (take count xs)
+  start_after-take_other start at other =
+      ap (λ (prefix : List ℕ). start_after start at prefix) (take_more xs count 0 within)
+      ∙ start_after-other start at (take count xs) (get_or xs count 0) other

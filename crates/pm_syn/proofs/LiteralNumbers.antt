@@ -1,8 +1,8 @@
--- That a literal writes one number.
+-- Proof that a literal writes one number.
 use Rattle.std.proofs.Common.{◌≡◌, ℕ, List, [], ◌∷◌, inl, inr, sym, ◌∙◌}
 use Rattle.pm_syn.specs.Numbers.{IsLiteral, IsBased, IsDecimal}
 
--- the first two bytes tell a based literal's base, and with the digits its number
+-- the first two bytes determine a based literal's base, and with the digits its number
 based_writes_one : (number other : ℕ) (bytes : List ℕ) → IsBased number bytes → IsBased other bytes → number ≡ other
 based_writes_one number other bytes one two =
     let spelled : 48 ∷ one.letter ∷ one.digits ≡ 48 ∷ two.letter ∷ two.digits = sym one.spelled ∙ two.spelled in

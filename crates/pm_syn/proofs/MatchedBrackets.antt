@@ -1,4 +1,4 @@
--- That the brackets of each logical line match.
+-- Proof that the brackets of each logical line match.
 use Rattle.std.proofs.Common.{◌≡◌, ◌⊎◌, ◌+◌, ℕ, Bool, true, false, if◌then◌else◌, List, [], ◌∷◌, ◌++◌, length, arith, refl, inl, inr, sym, ap, subst, ◌∙◌, append_assoc}
 use Rattle.std.specs.Prelude.{All, Option, None, Some}
 use Rattle.std.specs.Option.{option_to_list}
@@ -7,9 +7,9 @@ use Rattle.std.proofs.lemmas.List.{nil_from_length}
 use Rattle.std.proofs.lemmas.List.Elements.{All-nil, All-cons, All-append}
 use Rattle.pm_syn.specs.Bytes.{IsLineEnd}
 use Rattle.pm_syn.specs.Lexemes.{IsGap, Lexeme, Stands}
-use Rattle.pm_syn.specs.LogicalLines.{begun_behind, begun_line, continued, drafts_of, ended_behind, ended_lines, token_of}
-use Rattle.pm_syn.specs.Places.{last_line}
-use Rattle.pm_syn.specs.Reading.{Reads, Stops, are_closed, bad_nesting, brackets_of, byte_of, bytes_of, closing_of, is_name_behind_number, line_of, misfit, nested, nesting_of, sort_before, unclosed, wrongly_closed}
+use Rattle.pm_syn.specs.LogicalLines.{begun_after, begun_line, continued, drafts_of, ended_after, ended_lines, token_of}
+use Rattle.pm_syn.specs.Positions.{last_line}
+use Rattle.pm_syn.specs.Reading.{Reads, Stops, are_closed, bad_nesting, brackets_of, byte_of, bytes_of, closing_of, is_name_after_number, line_of, misfit, nested, nesting_of, sort_before, unclosed, wrongly_closed}
 use Rattle.pm_syn.specs.Spaces.{AreMatched, IsBracket, IsPair}
 use Rattle.pm_syn.specs.declared.bracket.Bracket.{Bracket}
 use Rattle.pm_syn.specs.declared.bracket.Nesting.{Nesting}
@@ -29,7 +29,7 @@ closing_byte : (a : ℕ) → nesting_of (a ∷ []) ≡ nesting.Closes → (a ≡
 closing_byte a closes = grind (arith, nat_tests)
 
 -- an opening bracket's pair
-opening_pair : (bytes : List ℕ) → nesting_of bytes ≡ nesting.Opens → IsPair bytes (closing_of (byte_of bytes) ∷ [])
+pub opening_pair : (bytes : List ℕ) → nesting_of bytes ≡ nesting.Opens → IsPair bytes (closing_of (byte_of bytes) ∷ [])
 opening_pair [] opens = absurd (cc)
 opening_pair (a ∷ b ∷ bytes) opens = absurd (cc)
 opening_pair (a ∷ []) opens =
@@ -41,7 +41,7 @@ opening_pair (a ∷ []) opens =
     ]
 
 -- a closing bracket's pair, and its only byte
-closing_pair : (bytes : List ℕ) → nesting_of bytes ≡ nesting.Closes → ((opening : List ℕ) × IsPair opening bytes) × (bytes ≡ byte_of bytes ∷ [])
+pub closing_pair : (bytes : List ℕ) → nesting_of bytes ≡ nesting.Closes → ((opening : List ℕ) × IsPair opening bytes) × (bytes ≡ byte_of bytes ∷ [])
 closing_pair [] closes = absurd (cc)
 closing_pair (a ∷ b ∷ bytes) closes = absurd (cc)
 closing_pair (a ∷ []) closes =
@@ -55,45 +55,45 @@ closing_pair (a ∷ []) closes =
     )
 
 -- what the brackets of a pair do
-pair_nests : (opening closing : List ℕ) → IsPair opening closing → (nesting_of opening ≡ nesting.Opens) × (nesting_of closing ≡ nesting.Closes)
+pub pair_nests : (opening closing : List ℕ) → IsPair opening closing → (nesting_of opening ≡ nesting.Opens) × (nesting_of closing ≡ nesting.Closes)
 pair_nests opening closing (inl round) = (ap nesting_of round.0, ap nesting_of round.1)
 pair_nests opening closing (inr (inl square)) = (ap nesting_of square.0, ap nesting_of square.1)
 pair_nests opening closing (inr (inr curly)) = (ap nesting_of curly.0, ap nesting_of curly.1)
 
 -- what keeps the brackets is none
-keeps_none : (bytes : List ℕ) → nesting_of bytes ≡ nesting.Keeps → IsBracket bytes → ⊥
+pub keeps_none : (bytes : List ℕ) → nesting_of bytes ≡ nesting.Keeps → IsBracket bytes → ⊥
 keeps_none bytes keeps (other, inl opening) = let opens = (pair_nests bytes other opening).0 in cc
 keeps_none bytes keeps (other, inr closing) = let closes = (pair_nests other bytes closing).1 in cc
 
 -- what is no bracket keeps them
-none_keeps : (bytes : List ℕ) → (IsBracket bytes → ⊥) → (nests : Nesting) → nesting_of bytes ≡ nests → nesting_of bytes ≡ nesting.Keeps
+pub none_keeps : (bytes : List ℕ) → (IsBracket bytes → ⊥) → (nests : Nesting) → nesting_of bytes ≡ nests → nesting_of bytes ≡ nesting.Keeps
 none_keeps bytes none nesting.Opens is = absurd (none (closing_of (byte_of bytes) ∷ [], inl (opening_pair bytes is)))
 none_keeps bytes none nesting.Closes is = let pair = (closing_pair bytes is).0 in absurd (none (pair.0, inr pair.1))
 none_keeps bytes none nesting.Keeps is = is
 
 -- ---- tokens whose brackets match
 
-matched_append : (tokens more : List Token) → AreMatched tokens → AreMatched more → AreMatched (tokens ++ more)
+pub matched_append : (tokens more : List Token) → AreMatched tokens → AreMatched more → AreMatched (tokens ++ more)
 matched_append tokens more AreMatched.nothing too = too
-matched_append tokens more (AreMatched.no_bracket token behind none are) too = AreMatched.no_bracket token (behind ++ more) none (matched_append behind more are too)
-matched_append tokens more (AreMatched.pair opening inner closing behind fits within are) too =
-    subst (λ (rest : List Token). AreMatched (opening ∷ rest)) (sym (append_assoc inner (closing ∷ behind) more)) (
-    AreMatched.pair opening inner closing (behind ++ more) fits within (matched_append behind more are too))
+matched_append tokens more (AreMatched.no_bracket token after none are) too = AreMatched.no_bracket token (after ++ more) none (matched_append after more are too)
+matched_append tokens more (AreMatched.pair opening inner closing after fits within are) too =
+    subst (λ (rest : List Token). AreMatched (opening ∷ rest)) (sym (append_assoc inner (closing ∷ after) more)) (
+    AreMatched.pair opening inner closing (after ++ more) fits within (matched_append after more are too))
 
--- these brackets are open behind the tokens, from the innermost to the outermost, and the others match
+-- these brackets are open after the tokens, from the innermost to the outermost, and the others match
 abbrev pub AreOpen : List Bracket → List Token → Type 0
 AreOpen [] tokens = AreMatched tokens
 AreOpen (bracket ∷ outer) tokens =
-    (front : List Token) × (opening : Token) × (inner : List Token) × (tokens ≡ front ++ opening ∷ inner)
-    × IsPair opening.text (closing_of bracket.byte ∷ []) × AreOpen outer front × AreMatched inner
+    (prefix : List Token) × (opening : Token) × (inner : List Token) × (tokens ≡ prefix ++ opening ∷ inner)
+    × IsPair opening.text (closing_of bracket.byte ∷ []) × AreOpen outer prefix × AreMatched inner
 
 open_append : (brackets : List Bracket) (tokens more : List Token) → AreOpen brackets tokens → AreMatched more → AreOpen brackets (tokens ++ more)
 open_append [] tokens more are too = matched_append tokens more are too
-open_append (bracket ∷ outer) tokens more (front, opening, inner, is, pair, are, within) too =
-    (front, opening, inner ++ more, ap (λ (all : List Token). all ++ more) is ∙ append_assoc front (opening ∷ inner) more, pair, are, matched_append inner more within too)
+open_append (bracket ∷ outer) tokens more (prefix, opening, inner, is, pair, are, within) too =
+    (prefix, opening, inner ++ more, ap (λ (all : List Token). all ++ more) is ∙ append_assoc prefix (opening ∷ inner) more, pair, are, matched_append inner more within too)
 
 -- the innermost open bracket is closed by the byte that fits it
-fits_innermost : (line byte : ℕ) (innermost : Bracket) (outer : List Bracket) → wrongly_closed line byte (innermost ∷ outer) ≡ None → closing_of innermost.byte ≡ byte
+pub fits_innermost : (line byte : ℕ) (innermost : Bracket) (outer : List Bracket) → wrongly_closed line byte (innermost ∷ outer) ≡ None → closing_of innermost.byte ≡ byte
 fits_innermost line byte innermost outer none = grind (arith, nat_tests)
 
 -- one more token
@@ -105,11 +105,11 @@ open_with nesting.Keeps line token brackets tokens is fits are =
 open_with nesting.Opens line token brackets tokens is fits are =
     (tokens, token, [], refl, opening_pair token.text is, are, AreMatched.nothing)
 open_with nesting.Closes line token [] tokens is fits are = absurd (cc)
-open_with nesting.Closes line token (innermost ∷ outer) tokens is fits (front, opening, inner, all, pair, are, within) =
+open_with nesting.Closes line token (innermost ∷ outer) tokens is fits (prefix, opening, inner, all, pair, are, within) =
     let closing : closing_of innermost.byte ∷ [] ≡ token.text =
     ap (λ (byte : ℕ). byte ∷ []) (fits_innermost line (byte_of token.text) innermost outer fits) ∙ sym (closing_pair token.text is).1 in
-    subst (AreOpen outer) (sym (ap (λ (known : List Token). known ++ token ∷ []) all ∙ append_assoc front (opening ∷ inner) (token ∷ []))) (
-    open_append outer front (opening ∷ (inner ++ token ∷ [])) are (
+    subst (AreOpen outer) (sym (ap (λ (known : List Token). known ++ token ∷ []) all ∙ append_assoc prefix (opening ∷ inner) (token ∷ []))) (
+    open_append outer prefix (opening ∷ (inner ++ token ∷ [])) are (
     AreMatched.pair opening inner token [] (subst (IsPair opening.text) closing pair) within AreMatched.nothing))
 
 -- ---- how many brackets are open
@@ -164,7 +164,7 @@ matched_count tokens (AreMatched.pair opening inner closing more fits within are
 open_count : (brackets : List Bracket) (tokens : List Token) → AreOpen brackets tokens
     → count_of opens tokens ≡ count_of closes tokens + length brackets
 open_count [] tokens are = omega (arith, matched_count tokens are)
-open_count (bracket ∷ outer) tokens (front, opening, inner, is, pair, are, within) =
+open_count (bracket ∷ outer) tokens (prefix, opening, inner, is, pair, are, within) =
     let nests = pair_nests opening.text _ pair in
     let opened : opens (nesting_of opening.text) ≡ 1 = ap opens nests.0 in
     let unclosed : closes (nesting_of opening.text) ≡ 0 = ap closes nests.0 in
@@ -174,10 +174,10 @@ open_count (bracket ∷ outer) tokens (front, opening, inner, is, pair, are, wit
       unclosed,
       ap (count_of opens) is,
       ap (count_of closes) is,
-      count_append opens front (opening ∷ inner),
-      count_append closes front (opening ∷ inner),
+      count_append opens prefix (opening ∷ inner),
+      count_append closes prefix (opening ∷ inner),
       matched_count inner within,
-      open_count outer front are,
+      open_count outer prefix are,
     )
 
 -- where the brackets of the tokens match, none is open
@@ -187,17 +187,17 @@ none_open brackets tokens are matched = nil_from_length brackets (omega (arith, 
 -- ---- lexemes that are read
 
 -- a byte that keeps the brackets does so with more bytes
-keeps_behind : (a : ℕ) (bytes : List ℕ) → nesting_of (a ∷ []) ≡ nesting.Keeps → nesting_of (a ∷ bytes) ≡ nesting.Keeps
-keeps_behind a [] keeps = keeps
-keeps_behind a (b ∷ bytes) keeps = refl
+keeps_after : (a : ℕ) (bytes : List ℕ) → nesting_of (a ∷ []) ≡ nesting.Keeps → nesting_of (a ∷ bytes) ≡ nesting.Keeps
+keeps_after a [] keeps = keeps
+keeps_after a (b ∷ bytes) keeps = refl
 
-gap_keeps : (bytes after : List ℕ) → IsGap bytes after → nesting_of bytes ≡ nesting.Keeps
+pub gap_keeps : (bytes after : List ℕ) → IsGap bytes after → nesting_of bytes ≡ nesting.Keeps
 gap_keeps bytes after (inl blank) = ap nesting_of blank
 gap_keeps bytes after (inr (inl tab)) = ap nesting_of tab
-gap_keeps bytes after (inr (inr (inl comment))) = ap nesting_of comment.spelled ∙ keeps_behind 35 comment.text refl
-gap_keeps bytes after (inr (inr (inr joining))) = ap nesting_of joining.spelled ∙ keeps_behind 92 joining.line_end refl
+gap_keeps bytes after (inr (inr (inl comment))) = ap nesting_of comment.spelled ∙ keeps_after 35 comment.text refl
+gap_keeps bytes after (inr (inr (inr joining))) = ap nesting_of joining.spelled ∙ keeps_after 92 joining.line_end refl
 
-line_end_keeps : (bytes : List ℕ) → IsLineEnd bytes → nesting_of bytes ≡ nesting.Keeps
+pub line_end_keeps : (bytes : List ℕ) → IsLineEnd bytes → nesting_of bytes ≡ nesting.Keeps
 line_end_keeps bytes (inl short) = ap nesting_of short
 line_end_keeps bytes (inr long) = ap nesting_of long
 
@@ -207,10 +207,10 @@ tokens_begun None = []
 tokens_begun (Some draft) = draft.tokens
 
 -- a line end
-open_behind_end : (brackets : List Bracket) (begun : Option Draft) → AreOpen brackets (tokens_begun begun)
+open_after_end : (brackets : List Bracket) (begun : Option Draft) → AreOpen brackets (tokens_begun begun)
     → AreOpen brackets (tokens_begun (if are_closed brackets then None else begun))
-open_behind_end [] begun are = AreMatched.nothing
-open_behind_end (bracket ∷ outer) begun are = are
+open_after_end [] begun are = AreMatched.nothing
+open_after_end (bracket ∷ outer) begun are = are
 
 -- a token
 tokens_continued : (line : ℕ) (indent : List ℕ) (begun : Option Draft) (token : Token)
@@ -219,31 +219,31 @@ tokens_continued line indent None token = refl
 tokens_continued line indent (Some draft) token = refl
 
 -- the brackets of a lexeme that is no misfit fit
-nesting_fits : (behind_number : Bool) (line : ℕ) (bad : Option ℕ) → (if behind_number then Some line else bad) ≡ None → bad ≡ None
+pub nesting_fits : (after_number : Bool) (line : ℕ) (bad : Option ℕ) → (if after_number then Some line else bad) ≡ None → bad ≡ None
 nesting_fits true line bad fits = absurd (cc)
 nesting_fits false line bad fits = fits
 
 open_with_lexeme : (before : List Lexeme) (sort : Sort) (bytes after : List ℕ) → Stands sort bytes after
     → misfit before (record { sort = sort; bytes = bytes }) ≡ None → AreOpen (brackets_of before) (tokens_begun (begun_line before))
-    → AreOpen (nested (nesting_of bytes) (line_of before) (byte_of bytes) (brackets_of before)) (tokens_begun (begun_behind before bytes sort (begun_line before)))
+    → AreOpen (nested (nesting_of bytes) (line_of before) (byte_of bytes) (brackets_of before)) (tokens_begun (begun_after before bytes sort (begun_line before)))
 open_with_lexeme before sort.Gap bytes after stands fits are = rw (gap_keeps bytes after stands) are
 open_with_lexeme before sort.LineEnd bytes after stands fits are =
-    rw (line_end_keeps bytes stands) (open_behind_end (brackets_of before) (begun_line before) are)
+    rw (line_end_keeps bytes stands) (open_after_end (brackets_of before) (begun_line before) are)
 open_with_lexeme before (sort.Token kind) bytes after stands fits are =
     let token : Token = token_of before kind bytes in
     let bad : Option ℕ = bad_nesting (nesting_of bytes) (line_of before) (byte_of bytes) (brackets_of before) in
     subst (AreOpen (nested (nesting_of bytes) (line_of before) (byte_of bytes) (brackets_of before))) (
     sym (tokens_continued (line_of before) (last_line (bytes_of before)) (begun_line before) token)) (
     open_with (nesting_of bytes) (line_of before) token (brackets_of before) (tokens_begun (begun_line before)) refl (
-    nesting_fits (is_name_behind_number (sort_before before) (sort.Token kind)) (line_of before) bad fits) are)
+    nesting_fits (is_name_after_number (sort_before before) (sort.Token kind)) (line_of before) bad fits) are)
 
 -- the open brackets are those of the logical line that has begun
-pub open_behind : (text : List ℕ) (before : List Lexeme) (rest : List ℕ) → Reads text before rest
+pub open_after : (text : List ℕ) (before : List Lexeme) (rest : List ℕ) → Reads text before rest
     → AreOpen (brackets_of before) (tokens_begun (begun_line before))
-open_behind text [] rest read = AreMatched.nothing
-open_behind text (lexeme ∷ before) rest read =
+open_after text [] rest read = AreMatched.nothing
+open_after text (lexeme ∷ before) rest read =
     let last = read_one text lexeme before rest read in
-    open_with_lexeme before lexeme.sort lexeme.bytes rest last.1 last.2 (open_behind text before (lexeme.bytes ++ rest) last.0)
+    open_with_lexeme before lexeme.sort lexeme.bytes rest last.1 last.2 (open_after text before (lexeme.bytes ++ rest) last.0)
 
 -- ---- logical lines
 
@@ -257,22 +257,22 @@ begun_matched None are = All-nil IsMatched
 begun_matched (Some draft) are = All-cons IsMatched draft [] are (All-nil IsMatched)
 
 -- with the logical line that a line end ends
-matched_behind_end : (brackets : List Bracket) (ended : List Draft) (begun : Option Draft) → AreOpen brackets (tokens_begun begun) → All IsMatched ended
+matched_after_end : (brackets : List Bracket) (ended : List Draft) (begun : Option Draft) → AreOpen brackets (tokens_begun begun) → All IsMatched ended
     → All IsMatched (if are_closed brackets then ended ++ option_to_list begun else ended)
-matched_behind_end [] ended begun are matched = All-append IsMatched ended (option_to_list begun) matched (begun_matched begun are)
-matched_behind_end (bracket ∷ outer) ended begun are matched = matched
+matched_after_end [] ended begun are matched = All-append IsMatched ended (option_to_list begun) matched (begun_matched begun are)
+matched_after_end (bracket ∷ outer) ended begun are matched = matched
 
 matched_with : (before : List Lexeme) (sort : Sort) → AreOpen (brackets_of before) (tokens_begun (begun_line before))
-    → All IsMatched (ended_lines before) → All IsMatched (ended_behind before sort (ended_lines before))
+    → All IsMatched (ended_lines before) → All IsMatched (ended_after before sort (ended_lines before))
 matched_with before sort.Gap are matched = matched
-matched_with before sort.LineEnd are matched = matched_behind_end (brackets_of before) (ended_lines before) (begun_line before) are matched
+matched_with before sort.LineEnd are matched = matched_after_end (brackets_of before) (ended_lines before) (begun_line before) are matched
 matched_with before (sort.Token kind) are matched = matched
 
 ended_matched : (text : List ℕ) (before : List Lexeme) (rest : List ℕ) → Reads text before rest → All IsMatched (ended_lines before)
 ended_matched text [] rest read = All-nil IsMatched
 ended_matched text (lexeme ∷ before) rest read =
     let last = read_one text lexeme before rest read in
-    matched_with before lexeme.sort (open_behind text before (lexeme.bytes ++ rest) last.0) (ended_matched text before (lexeme.bytes ++ rest) last.0)
+    matched_with before lexeme.sort (open_after text before (lexeme.bytes ++ rest) last.0) (ended_matched text before (lexeme.bytes ++ rest) last.0)
 
 unclosed_none : (brackets : List Bracket) → unclosed brackets ≡ None → brackets ≡ []
 unclosed_none [] none = refl
@@ -290,7 +290,7 @@ closed_at_end before stops = elim (stop_cases before [] None stops) [
 -- the brackets of each logical line of a text match
 pub all_matched : (text : List ℕ) (before : List Lexeme) → Reads text before [] → Stops before [] None → All IsMatched (drafts_of before)
 all_matched text before read stops =
-    let are = open_behind text before [] read in
+    let are = open_after text before [] read in
     let last : AreMatched (tokens_begun (begun_line before)) =
     subst (λ (brackets : List Bracket). AreOpen brackets (tokens_begun (begun_line before))) (closed_at_end before stops) are in
     All-append IsMatched (ended_lines before) (option_to_list (begun_line before)) (ended_matched text before [] read) (begun_matched (begun_line before) last)

@@ -1,4 +1,4 @@
--- The bytes of a name: the first, and those that go on with it.
+-- The bytes of a name: the first, and those that continue it.
 use Rattle.std.proofs.Common.{◌≡◌, ℕ, true, List, [], ◌∷◌, All, refl}
 use Rattle.std.specs.List.{list_all}
 use Rattle.std.proofs.lemmas.Bool.{and_parts}
@@ -6,7 +6,7 @@ use Rattle.std.proofs.lemmas.List.Elements.{All-nil, All-cons, All-head, All-tai
 use Rattle.pm_syn.specs.Bytes.{begins_name, continues_name}
 use Rattle.pm_syn.specs.Names.{is_spelled_as_name}
 
--- the bytes all go on with a name
+-- the bytes all continue a name
 abbrev pub AllContinue : List ℕ → Type 0
 AllContinue bytes = All (λ byte. continues_name byte ≡ true) bytes
 
@@ -23,7 +23,7 @@ list_all-continue (byte ∷ bytes) all =
     let later = list_all-continue bytes (All-tail (λ byte. continues_name byte ≡ true) byte bytes all) in
     rw (here, later) refl
 
--- a name's first byte begins it, and the others go on
+-- a name's first byte begins it, and the others continue
 pub name_parts : (first : ℕ) (others : List ℕ) → is_spelled_as_name (first ∷ others) ≡ true → (begins_name first ≡ true) × AllContinue others
 name_parts first others name = let parts = and_parts (begins_name first) (list_all continues_name others) name in (parts.0, all_continue others parts.1)
 

@@ -1,4 +1,4 @@
--- That one answer is given for a text: one list of lines, or one fault.
+-- Proof that a text has one answer: one list of lines, or one fault.
 use Rattle.std.proofs.Common.{◌≡◌, ◌<◌, ◌^◌, ◌⊎◌, ◌++◌, ℕ, List, [], length, map, arith, refl, inl, inr, sym, ap, subst, ◌∙◌}
 use Rattle.std.specs.Prelude.{Option, None, Ok, Err}
 use Rattle.std.proofs.lemmas.List.Elements.{All-contains}
@@ -12,7 +12,7 @@ use Rattle.pm_syn.specs.declared.fault.TextFault.TheVariants as fault
 use Rattle.pm_syn.specs.declared.token.Line.{Line}
 use Rattle.pm_syn.proofs.OneReading.{one_way}
 
--- a fault is told by the line that it names and its rank
+-- a fault is determined by the line that it names and its rank
 by_rank : (one other : TextFault) → line_named one ≡ line_named other → rank_of one ≡ rank_of other → one ≡ other
 by_rank (fault.BadToken line) (fault.BadToken other) named rank = ap fault.BadToken named
 by_rank (fault.BadIndent line) (fault.BadIndent other) named rank = ap fault.BadIndent named
@@ -62,7 +62,7 @@ lines_or_fault text lines first is too =
     ∙ is.faultless in
     none_first first (subst (IsFirst first) faults too.named)
 
--- a fault that is answered is that of a text that is too long, or the first of a text's faults
+-- a fault that is the answer is that of a text that is too long, or the first of a text's faults
 fault_cases : (text : List ℕ) (first : TextFault) → IsAnswer text (Err first)
     → ((first ≡ fault.FileTooLong) × (2 ^ 20 < length text)) ⊎ HasFault text first
 fault_cases text fault.FileTooLong is = inl (refl, is)

@@ -1,4 +1,4 @@
--- That a text is read in one way: its lexemes, where the reading stops, and at which bad token.
+-- Proof that a text is read in one way: its lexemes, where the reading stops, and at which bad token.
 use Rattle.std.proofs.Common.{◌≡◌, ◌≢◌, ◌<◌, ◌⊎◌, ℕ, List, [], ◌∷◌, ◌++◌, length, arith, refl, inl, inr, sym, ap, subst, ◌∙◌}
 use Rattle.std.specs.Prelude.{Option, Some, None}
 use Rattle.std.proofs.lemmas.Bool.{cases_order}
@@ -16,7 +16,7 @@ read_nothing text rest Reads.begin = refl
 -- the nearest lexeme was read from what the others left
 pub read_one : (text : List ℕ) (lexeme : Lexeme) (before : List Lexeme) (rest : List ℕ) → Reads text (lexeme ∷ before) rest
     → Reads text before (lexeme.bytes ++ rest) × Stands lexeme.sort lexeme.bytes rest × (misfit before lexeme ≡ None)
-read_one text lexeme before rest (Reads.next front nearest left read stands fits) = (read, stands, fits)
+read_one text lexeme before rest (Reads.next prefix nearest left read stands fits) = (read, stands, fits)
 
 -- a lexeme is its sort and its bytes
 same_lexeme : (one other : Lexeme) → one.sort ≡ other.sort → one.bytes ≡ other.bytes → one ≡ other
@@ -36,11 +36,11 @@ one_reading text (lexeme ∷ before) (other ∷ others) rest left read too same 
     let inside = one_reading text before others (lexeme.bytes ++ rest) (other.bytes ++ left) last.0 also.0 (omega (arith, same)) in
     let head = one_lexeme lexeme.sort other.sort lexeme.bytes other.bytes rest left last.1 also.1 inside.1 in
     let lexemes = same_lexeme lexeme other head.0 head.1 in
-    (ap (λ (first : Lexeme). first ∷ before) lexemes ∙ ap (λ (behind : List Lexeme). other ∷ behind) inside.0, head.2)
+    (ap (λ (first : Lexeme). first ∷ before) lexemes ∙ ap (λ (after : List Lexeme). other ∷ after) inside.0, head.2)
 
 -- ---- where the reading was before
 
--- the reading had read so many lexemes, and one more stood there
+-- the reading had read the given number of lexemes, and one more was there
 record WasAt (text : List ℕ) (count : ℕ) : Type 0 where
   before : List Lexeme
   lexeme : Lexeme
@@ -65,18 +65,18 @@ was_at text (lexeme ∷ before) rest count read less =
 
 -- it stops before a bad token
 pub record IsMisfit (before : List Lexeme) (rest : List ℕ) (bad_token : Option ℕ) : Type 0 where
-  lexeme : Lexeme
-  after : List ℕ
-  line : ℕ
-  left : rest ≡ lexeme.bytes ++ after
-  stands : Stands lexeme.sort lexeme.bytes after
-  unfit : misfit before lexeme ≡ Some line
+  pub lexeme : Lexeme
+  pub after : List ℕ
+  pub line : ℕ
+  pub left : rest ≡ lexeme.bytes ++ after
+  pub stands : Stands lexeme.sort lexeme.bytes after
+  pub unfit : misfit before lexeme ≡ Some line
   pub named : bad_token ≡ Some line
 
--- it stops where no lexeme stands
+-- it stops where there is no lexeme
 pub record HasNoLexeme (before : List Lexeme) (rest : List ℕ) (bad_token : Option ℕ) : Type 0 where
-  some : rest ≢ []
-  no_lexeme : (lexeme : Lexeme) (after : List ℕ) → rest ≡ lexeme.bytes ++ after → Stands lexeme.sort lexeme.bytes after → ⊥
+  pub some : rest ≢ []
+  pub no_lexeme : (lexeme : Lexeme) (after : List ℕ) → rest ≡ lexeme.bytes ++ after → Stands lexeme.sort lexeme.bytes after → ⊥
   pub named : bad_token ≡ Some (line_of before)
 
 -- how it stops
@@ -87,14 +87,14 @@ stop_cases before rest bad_token (Stops.at_no_lexeme read left some none) = inr 
 stop_cases before rest bad_token (Stops.at_misfit read lexeme after line stands unfit) =
     inr (inr (record { lexeme = lexeme; after = after; line = line; left = refl; stands = stands; unfit = unfit; named = refl }))
 
--- one lexeme stands behind the others
+-- one lexeme comes after the others
 misfit_same : (before : List Lexeme) (one other : Lexeme) (after rest : List ℕ) → Stands one.sort one.bytes after → Stands other.sort other.bytes rest
     → one.bytes ++ after ≡ other.bytes ++ rest → misfit before one ≡ misfit before other
 misfit_same before one other after rest is too same =
     let head = one_lexeme one.sort other.sort one.bytes other.bytes after rest is too same in
     ap (misfit before) (same_lexeme one other head.0 head.1)
 
--- no lexeme that fits stands where a reading stops
+-- no lexeme that fits is where a reading stops
 stopped_there : (before : List Lexeme) (rest : List ℕ) (bad_token : Option ℕ) (lexeme : Lexeme) (after : List ℕ) → Stops before rest bad_token
     → rest ≡ lexeme.bytes ++ after → Stands lexeme.sort lexeme.bytes after → misfit before lexeme ≡ None → ⊥
 stopped_there before rest bad_token lexeme after stops is stands fits = elim (stop_cases before rest bad_token stops) [
@@ -146,7 +146,7 @@ one_way text before others rest left one other read stops too also = elim (cases
   | inl same ↦
       let lexemes = one_reading text before others rest left read too same in
       let moved : Stops before rest other =
-      subst (λ (front : List Lexeme). Stops front rest other) (sym lexemes.0) (subst (λ (behind : List ℕ). Stops others behind other) (sym lexemes.1) also) in
+      subst (λ (prefix : List Lexeme). Stops prefix rest other) (sym lexemes.0) (subst (λ (after : List ℕ). Stops others after other) (sym lexemes.1) also) in
       (lexemes.0, lexemes.1, one_stop before rest one other stops moved)
   | inr (inl less) ↦ absurd (no_fewer text before others rest left one read stops too less)
   | inr (inr more) ↦ absurd (no_fewer text others before left rest other too also read more)

@@ -1,4 +1,4 @@
--- Operators of a known number of bytes at the head of a text.
+-- Operators of a known number of bytes at the start of a text.
 use Rattle.std.proofs.Common.{◌≡◌, ◌++◌, ◌≤◌, ℕ, Bool, true, false, List, [], ◌∷◌, length, get_or, refl, ap, sym, ◌∙◌, length-append, arith}
 use Rattle.std.proofs.lemmas.Bool.{false≢true, le-leb, and_from}
 use Rattle.std.proofs.lemmas.Bool.Decides.{same_from_decides, Decides-like, nat_tests}
@@ -41,17 +41,17 @@ has_operator-three (a ∷ b ∷ c ∷ text) long =
 no_operator-long : (a b c d : ℕ) (more : List ℕ) → is_operator (a ∷ b ∷ c ∷ d ∷ more) ≡ false
 no_operator-long a b c d more = grind (arith, nat_tests)
 
--- an operator at the head of a text, by its length
-has_operator-front : (front rest text : List ℕ) → front ++ rest ≡ text → is_operator front ≡ true → has_operator (length front) text ≡ true
-has_operator-front front rest text same is =
-    let here : has_operator (length front) (front ++ rest) ≡ true =
-    and_from _ _ (le-leb (length front) (length (front ++ rest)) (omega (arith, length-append front rest))) (ap is_operator (take_at front rest (length front) refl) ∙ is) in
-    ap (has_operator (length front)) (sym same) ∙ here
+-- an operator at the start of a text, by its length
+has_operator-prefix : (prefix rest text : List ℕ) → prefix ++ rest ≡ text → is_operator prefix ≡ true → has_operator (length prefix) text ≡ true
+has_operator-prefix prefix rest text same is =
+    let here : has_operator (length prefix) (prefix ++ rest) ≡ true =
+    and_from _ _ (le-leb (length prefix) (length (prefix ++ rest)) (omega (arith, length-append prefix rest))) (ap is_operator (take_at prefix rest (length prefix) refl) ∙ is) in
+    ap (has_operator (length prefix)) (sym same) ∙ here
 
--- no operator of one to three bytes at the head is no operator there
+-- no operator of one to three bytes at the start is no operator there
 pub no_operator : (text : List ℕ) → has_operator 3 text ≡ false → has_operator 2 text ≡ false → has_operator 1 text ≡ false → HasNoOperator text
 no_operator text three two one [] rest same is = false≢true is
-no_operator text three two one (a ∷ []) rest same is = false≢true (sym one ∙ has_operator-front (a ∷ []) rest text same is)
-no_operator text three two one (a ∷ b ∷ []) rest same is = false≢true (sym two ∙ has_operator-front (a ∷ b ∷ []) rest text same is)
-no_operator text three two one (a ∷ b ∷ c ∷ []) rest same is = false≢true (sym three ∙ has_operator-front (a ∷ b ∷ c ∷ []) rest text same is)
+no_operator text three two one (a ∷ []) rest same is = false≢true (sym one ∙ has_operator-prefix (a ∷ []) rest text same is)
+no_operator text three two one (a ∷ b ∷ []) rest same is = false≢true (sym two ∙ has_operator-prefix (a ∷ b ∷ []) rest text same is)
+no_operator text three two one (a ∷ b ∷ c ∷ []) rest same is = false≢true (sym three ∙ has_operator-prefix (a ∷ b ∷ c ∷ []) rest text same is)
 no_operator text three two one (a ∷ b ∷ c ∷ d ∷ more) rest same is = false≢true (sym (no_operator-long a b c d more) ∙ is)

@@ -33,7 +33,7 @@ closing_quote-other quote byte (next ∷ rest) other inside plain =
     ∙ cond-false (byte == LF) _ _ (ne_eqb byte LF inside)
     ∙ cond-false (byte == 92) _ _ (ne_eqb byte 92 plain)
 
--- a backslash covers the byte behind it, and nothing is found from behind the end
+-- a backslash covers the byte after it, and nothing is found from after the end
 closing_quote-covered : (quote : ℕ) (rest : List ℕ) → 92 ≢ quote → (0 < length rest → get_or rest 0 0 ≢ LF)
     → closing_quote quote (92 ∷ rest) ≡ option_map (λ count. count + 2) (closing_quote quote (drop 1 rest))
 closing_quote-covered quote [] other covered = cond-false (92 == quote) _ _ (ne_eqb 92 quote other)
@@ -41,7 +41,7 @@ closing_quote-covered quote (next ∷ rest) other covered =
     cond-false (92 == quote) _ _ (ne_eqb 92 quote other)
     ∙ cond-false (next == LF) _ _ (ne_eqb next LF (covered (omega arith)))
 
--- where the search stands after `at` bytes of the text: what it finds from there, counted from the start
+-- where the search is after `at` bytes of the text: what it finds from there, counted from the start
 abbrev pub quote_from : ℕ → ℕ → List ℕ → Option ℕ
 quote_from quote at text = option_map (λ count. count + at) (closing_quote quote (drop at text))
 
@@ -97,11 +97,11 @@ closing_quotes-short quote (a ∷ []) short = refl
 closing_quotes-short quote (a ∷ b ∷ []) short = refl
 closing_quotes-short quote (a ∷ b ∷ c ∷ text) short = absurd (omega arith)
 
--- where the search for three quotes stands after `at` bytes of the text: what it finds from there, counted from the start
+-- where the search for three quotes is after `at` bytes of the text: what it finds from there, counted from the start
 abbrev pub quotes_from : ℕ → ℕ → List ℕ → Option ℕ
 quotes_from quote at text = option_map (λ count. count + at) (closing_quotes quote (drop at text))
 
--- three bytes stand there
+-- three bytes are there
 drop_three : (at : ℕ) (text : List ℕ) → at + 2 < length text
     → drop at text ≡ get_or text at 0 ∷ get_or text (at + 1) 0 ∷ get_or text (at + 2) 0 ∷ drop (at + 3) text
 drop_three at text inside =

@@ -14,13 +14,13 @@ use Rattle.pm_syn.specs.declared.lexeme.Head.{Head}
 use Rattle.pm_syn.specs.declared.lexing.ReadText.{ReadText}
 use Rattle.pm_syn.specs.declared.reader.Reader.{Reader}
 use Rattle.pm_syn.proofs.LineEnds.{line_ends_within}
-use Rattle.pm_syn.proofs.ReadOn.{between_front}
+use Rattle.pm_syn.proofs.ReadOn.{between_prefix}
 
--- the text was read up to a place
+-- the text was read up to a position
 pub record IsReadTo (text : List ℕ) (at : ℕ) (reader : Reader) : Type 0 where
   pub within : at ≤ length text
-  pub line : reader.place.line ≤ at + 1
-  pub start : reader.place.start ≤ at
+  pub line : reader.line.number ≤ at + 1
+  pub start : reader.line.start ≤ at
   pub lexemes : List Lexeme
   pub reads : Reads text lexemes (drop at text)
   pub holds : HasRead text at lexemes reader
@@ -37,28 +37,28 @@ read_to_start text reader holds =
       holds = here;
     }
 
-line_within : (text : List ℕ) (at : ℕ) (before : List Lexeme) (reader : Reader) → HasRead text at before reader → reader.place.line ≤ at + 1
+line_within : (text : List ℕ) (at : ℕ) (before : List Lexeme) (reader : Reader) → HasRead text at before reader → reader.line.number ≤ at + 1
 line_within text at before reader here =
     let read : length (bytes_of before) ≤ at = omega (arith, ap length here.read, length-take at text) in
     omega (arith, here.line, line_ends_within (bytes_of before), read)
 
--- the rest is the lexeme at its head and what stands behind it
+-- the rest is the lexeme at its start and what comes after it
 rest_is : (text : List ℕ) (at count : ℕ) → drop at text ≡ between at (at + count) text ++ drop (at + count) text
 rest_is text at count =
     sym (take-append-drop count (drop at text))
-    ∙ ap (λ (bytes : List ℕ). bytes ++ drop count (drop at text)) (sym (between_front at count text))
+    ∙ ap (λ (bytes : List ℕ). bytes ++ drop count (drop at text)) (sym (between_prefix at count text))
     ∙ ap (λ (bytes : List ℕ). between at (at + count) text ++ bytes) (drop-drop count at text)
 
 stands_there : (text : List ℕ) (at : ℕ) (head : Head) → IsHead (drop at text) head → Stands head.sort (between at (at + head.length) text) (drop (at + head.length) text)
 stands_there text at head here =
     subst (λ (bytes : List ℕ). Stands head.sort (between at (at + head.length) text) bytes) (drop-drop head.length at text)
-    (subst (λ (bytes : List ℕ). Stands head.sort bytes (drop head.length (drop at text))) (sym (between_front at head.length text)) here.stands)
+    (subst (λ (bytes : List ℕ). Stands head.sort bytes (drop head.length (drop at text))) (sym (between_prefix at head.length text)) here.stands)
 
 head_within : (text : List ℕ) (at : ℕ) (head : Head) → at ≤ length text → IsHead (drop at text) head → at + head.length ≤ length text
 head_within text at head le here = omega (arith, here.within, length-drop at text, le)
 
 pub read_to_next : (text : List ℕ) (at : ℕ) (head : Head) (old new : Reader) → IsHead (drop at text) head
-    → ((whole : List ℕ) (place : ℕ) (before : List Lexeme) → HasRead whole place before old → None ≡ misfit before (record { sort = head.sort; bytes = between at (at + head.length) text }))
+    → ((whole : List ℕ) (position : ℕ) (before : List Lexeme) → HasRead whole position before old → None ≡ misfit before (record { sort = head.sort; bytes = between at (at + head.length) text }))
     → ((before : List Lexeme) → HasRead text at before old → HasRead text (at + head.length) (record { sort = head.sort; bytes = between at (at + head.length) text } ∷ before) new)
     → IsReadTo text at old → IsReadTo text (at + head.length) new
 read_to_next text at head old new here fits takes was =
@@ -95,16 +95,16 @@ stopped_read text at reader bad reading was stops is =
     }
 
 pub read_to_no_lexeme : (text : List ℕ) (at : ℕ) (reader : Reader) (reading : ReadText) → at < length text → HasNoHead (drop at text)
-    → IsReadTo text at reader → (reading.drafts.items ≡ reader.ended.items ++ option_to_list reader.begun) × (reading.bad_token ≡ Some reader.place.line)
+    → IsReadTo text at reader → (reading.drafts.items ≡ reader.ended.items ++ option_to_list reader.begun) × (reading.bad_token ≡ Some reader.line.number)
     → IsRead text reading
 read_to_no_lexeme text at reader reading lt none was is =
     let some : drop at text ≢ [] = λ (e : drop at text ≡ []). absurd (omega (arith, ap length e, length-drop at text, lt)) in
-    let stops : Stops was.lexemes (drop at text) (Some reader.place.line) =
+    let stops : Stops was.lexemes (drop at text) (Some reader.line.number) =
     subst (λ (line : ℕ). Stops was.lexemes (drop at text) (Some line)) (sym was.holds.line) (at_no_lexeme was.lexemes (drop at text) some none) in
-    stopped_read text at reader (Some reader.place.line) reading was stops is
+    stopped_read text at reader (Some reader.line.number) reading was stops is
 
 pub read_to_misfit : (text : List ℕ) (at : ℕ) (head : Head) (line : ℕ) (reader : Reader) (reading : ReadText) → IsHead (drop at text) head
-    → ((whole : List ℕ) (place : ℕ) (before : List Lexeme) → HasRead whole place before reader → Some line ≡ misfit before (record { sort = head.sort; bytes = between at (at + head.length) text }))
+    → ((whole : List ℕ) (position : ℕ) (before : List Lexeme) → HasRead whole position before reader → Some line ≡ misfit before (record { sort = head.sort; bytes = between at (at + head.length) text }))
     → IsReadTo text at reader → (reading.drafts.items ≡ reader.ended.items ++ option_to_list reader.begun) × (reading.bad_token ≡ Some line)
     → IsRead text reading
 read_to_misfit text at head line reader reading here fails was is =

@@ -1,23 +1,23 @@
--- The columns to which a line may return stand for all earlier ones.
+-- The columns to which a line may return represent all earlier ones.
 use Rattle.std.proofs.Common.{◌≡◌, ◌∙◌, ◌<◌, ℕ, Bool, true, false, List, [], ◌∷◌, refl, ap, ap₂, sym, inl, inr, arith}
 use Rattle.std.specs.Prelude.{◌==◌, ◌&&◌, ◌||◌, nat_lt, if◌then◌else◌}
 use Rattle.std.proofs.lemmas.Bool.{cases_Bool}
 use Rattle.std.proofs.lemmas.Bool.Decides.{nat_tests}
-use Rattle.pm_syn.specs.Indentation.{is_deeper, returns_to, is_column, is_placed, columns_with}
-use Rattle.pm_syn.specs.ColumnStack.{is_nearest, down_to, behind_column, behind_line}
+use Rattle.pm_syn.specs.Indentation.{is_deeper, returns_to, is_column, is_allowed, columns_with}
+use Rattle.pm_syn.specs.ColumnStack.{is_nearest, down_to, after_column, after_line}
 use Rattle.pm_syn.specs.declared.draft.Indentation.{Indentation}
 use Rattle.pm_syn.specs.declared.draft.Indentation.TheVariants as indentation
 
--- a line may stand behind these columns where it may stand behind those
+-- a line is allowed after these columns exactly when it is allowed after those
 pub record StandsFor (columns earlier : List ℕ) : Type 0 where
   pub deeper : (column : ℕ) → is_deeper column columns ≡ is_deeper column earlier
   pub returns : (column : ℕ) → returns_to column columns ≡ returns_to column earlier
 
--- columns stand for themselves
+-- columns represent themselves
 pub stands_for_itself : (columns : List ℕ) → StandsFor columns columns
 stands_for_itself columns = record { deeper = λ column. refl; returns = λ column. refl }
 
--- a column is returned to where it is the nearest one behind those that are left
+-- a column is returned to where it is the nearest one after those that are left
 pub is_nearest-down_to : (column : ℕ) (columns : List ℕ) → is_nearest column (down_to column columns) ≡ returns_to column columns
 is_nearest-down_to column [] = refl
 is_nearest-down_to column (nearest ∷ columns) =
@@ -48,7 +48,7 @@ level_with x column nearest rest same =
       | inr over ↦ rw over refl
     ])
 
--- a line that returns past this one returns behind it
+-- a line that returns past this one returns after it
 pub returns_farther : (column nearest : ℕ) (rest : Bool) → nat_lt column nearest ≡ true → (column == nearest || (nat_lt column nearest && rest)) ≡ true → rest ≡ true
 returns_farther column nearest rest under returns =
     let other : (column == nearest) ≡ false = grind (arith, nat_tests) in
@@ -58,7 +58,7 @@ returns_farther column nearest rest under returns =
 pub returns_there : (column nearest : ℕ) (rest : Bool) → nat_lt column nearest ≡ false → (column == nearest || (nat_lt column nearest && rest)) ≡ true → column ≡ nearest
 returns_there column nearest rest over returns = grind (arith, nat_tests, rw over at returns)
 
--- a line behind those that are left returns to this column, or to one that it may have returned to
+-- a line after those that are left returns to this column, or to one that it may have returned to
 returns_to-down_to : (x column : ℕ) (columns : List ℕ) → returns_to column columns ≡ true
     → returns_to x (down_to column columns) ≡ (x == column || (nat_lt x column && returns_to x columns))
 returns_to-down_to x column [] returns = cc
@@ -74,7 +74,7 @@ returns_to-down_to x column (nearest ∷ columns) returns =
           ∙ level_with x column nearest (returns_to x columns) (returns_there column nearest (returns_to column columns) level returns)
     ]
 
--- a line behind those that are left is deeper where it is deeper than this column
+-- a line after those that are left is deeper where it is deeper than this column
 is_deeper-down_to : (x column : ℕ) (columns : List ℕ) → returns_to column columns ≡ true → is_deeper x (down_to column columns) ≡ nat_lt column x
 is_deeper-down_to x column [] returns = cc
 is_deeper-down_to x column (nearest ∷ columns) returns =
@@ -87,19 +87,19 @@ is_deeper-down_to x column (nearest ∷ columns) returns =
           ∙ ap (λ (n : ℕ). nat_lt n x) (sym (returns_there column nearest (returns_to column columns) level returns))
     ]
 
--- a line may stand at this column behind the one or the other
+-- a line is allowed at this column after the one or the other
 pub is_column-same : {columns earlier : List ℕ} → StandsFor columns earlier → (column : ℕ) → is_column column columns ≡ is_column column earlier
 is_column-same stands column = ap₂ (λ (a b : Bool). a || b) (stands.deeper column) (stands.returns column)
 
--- a line with this indentation may stand behind the one or the other
-pub is_placed-same : {columns earlier : List ℕ} → StandsFor columns earlier → (place : Indentation) → is_placed place columns ≡ is_placed place earlier
-is_placed-same stands (indentation.Blanks column) = is_column-same stands column
-is_placed-same stands indentation.Tabbed = refl
+-- a line with this indentation is allowed after the one or the other
+pub is_allowed-same : {columns earlier : List ℕ} → StandsFor columns earlier → (indent : Indentation) → is_allowed indent columns ≡ is_allowed indent earlier
+is_allowed-same stands (indentation.Blanks column) = is_column-same stands column
+is_allowed-same stands indentation.Tabbed = refl
 
--- behind a line that may stand at this column the columns still stand for all earlier ones
-pub stands_behind_column : {columns earlier : List ℕ} → StandsFor columns earlier → (column : ℕ) → is_column column columns ≡ true
-    → StandsFor (behind_column column columns) (column ∷ earlier)
-stands_behind_column {columns} {earlier} stands column may =
+-- after a line that is allowed at this column the columns still represent all earlier ones
+pub stands_after_column : {columns earlier : List ℕ} → StandsFor columns earlier → (column : ℕ) → is_column column columns ≡ true
+    → StandsFor (after_column column columns) (column ∷ earlier)
+stands_after_column {columns} {earlier} stands column may =
     elim (cases_Bool (is_deeper column columns)) [
       | inl deep ↦
           rw deep (record {
@@ -114,8 +114,8 @@ stands_behind_column {columns} {earlier} stands column may =
           })
     ]
 
--- behind a line with this indentation that may stand there they do too
-pub stands_behind_line : {columns earlier : List ℕ} → StandsFor columns earlier → (place : Indentation) → is_placed place columns ≡ true
-    → StandsFor (behind_line place columns) (columns_with place earlier)
-stands_behind_line stands (indentation.Blanks column) may = stands_behind_column stands column may
-stands_behind_line stands indentation.Tabbed may = cc
+-- after a line with this indentation that is allowed there they do too
+pub stands_after_line : {columns earlier : List ℕ} → StandsFor columns earlier → (indent : Indentation) → is_allowed indent columns ≡ true
+    → StandsFor (after_line indent columns) (columns_with indent earlier)
+stands_after_line stands (indentation.Blanks column) may = stands_after_column stands column may
+stands_after_line stands indentation.Tabbed may = cc

@@ -1,4 +1,4 @@
--- That one token stands at a place: its bytes and its kind are told by the text.
+-- Proof that one token is at a position: its bytes and its kind are determined by the text.
 use Rattle.std.proofs.Common.{◌≡◌, ℕ, List, [], ◌∷◌, ◌++◌, length, arith, refl, sym, ap, subst, true}
 use Rattle.std.specs.Prelude.{Some}
 use Rattle.pm_syn.specs.Strings.{string_length}
@@ -10,24 +10,24 @@ use Rattle.pm_syn.proofs.FirstBytes.{literal_begins, operator_begins, token_some
 use Rattle.pm_syn.proofs.LiteralNumbers.{literal_writes_one}
 use Rattle.pm_syn.proofs.NameBytes.{name_parts}
 
--- fronts of one length of a text are one front, and the same is left behind them
-pub same_split : (front other rest behind : List ℕ) → length front ≡ length other → front ++ rest ≡ other ++ behind
-    → (front ≡ other) × (rest ≡ behind)
-same_split [] [] rest behind same is = (refl, is)
-same_split [] (byte ∷ other) rest behind same is = absurd (omega (arith, same))
-same_split (byte ∷ front) [] rest behind same is = absurd (omega (arith, same))
-same_split (byte ∷ front) (first ∷ other) rest behind same is =
+-- prefixes of one length of a text are one prefix, and the same text is left after them
+pub same_split : (prefix other rest after : List ℕ) → length prefix ≡ length other → prefix ++ rest ≡ other ++ after
+    → (prefix ≡ other) × (rest ≡ after)
+same_split [] [] rest after same is = (refl, is)
+same_split [] (byte ∷ other) rest after same is = absurd (omega (arith, same))
+same_split (byte ∷ prefix) [] rest after same is = absurd (omega (arith, same))
+same_split (byte ∷ prefix) (first ∷ other) rest after same is =
     let head : byte ≡ first = cc in
-    let tails : front ++ rest ≡ other ++ behind = cc in
-    let inside = same_split front other rest behind (omega (arith, same)) tails in
+    let tails : prefix ++ rest ≡ other ++ after = cc in
+    let inside = same_split prefix other rest after (omega (arith, same)) tails in
     (let e = inside.0 in cc, inside.1)
 
--- no name is a string, whatever stands behind it
+-- no name is a string, whatever comes after it
 name_no_string : (bytes after : List ℕ) → is_spelled_as_name bytes ≡ true → string_length (bytes ++ after) ≡ Some (length bytes) → ⊥
 name_no_string bytes after name string = let prefix = name_of_string bytes after (bytes ++ after) (length bytes) refl name string in omega (arith, prefix.0, prefix.1)
 
--- the bytes and the text behind them tell the kind of the token
-one_kind : (one other : TokenKind) (bytes after : List ℕ) → IsToken one bytes after → IsToken other bytes after → one ≡ other
+-- the bytes and the text after them determine the kind of the token
+pub one_kind : (one other : TokenKind) (bytes after : List ℕ) → IsToken one bytes after → IsToken other bytes after → one ≡ other
 one_kind one other [] after is too = absurd (let some = token_some one [] after is in omega (arith, some))
 one_kind kind.Name kind.Name (a ∷ bytes) after is too = refl
 one_kind (kind.Int n) (kind.Int m) (a ∷ bytes) after is too = ap kind.Int (literal_writes_one n m (a ∷ bytes) is too)
@@ -46,13 +46,13 @@ one_kind kind.Op (kind.Int n) (a ∷ bytes) after is too = absurd (mark_no_digit
 one_kind kind.Str kind.Op (a ∷ bytes) after is too = absurd (mark_no_string a (bytes ++ after) (length (a ∷ bytes)) (operator_begins a bytes too) is)
 one_kind kind.Op kind.Str (a ∷ bytes) after is too = absurd (mark_no_string a (bytes ++ after) (length (a ∷ bytes)) (operator_begins a bytes is) too)
 
--- one token stands at a place
-pub one_token : (one other : TokenKind) (bytes front after rest : List ℕ) → IsLongestToken one bytes after → IsLongestToken other front rest
-    → bytes ++ after ≡ front ++ rest → (one ≡ other) × (bytes ≡ front) × (after ≡ rest)
-one_token one other bytes front after rest is too same =
-    let short = is.longest other front rest (sym same) too.spelled in
+-- one token is at a position
+pub one_token : (one other : TokenKind) (bytes prefix after rest : List ℕ) → IsLongestToken one bytes after → IsLongestToken other prefix rest
+    → bytes ++ after ≡ prefix ++ rest → (one ≡ other) × (bytes ≡ prefix) × (after ≡ rest)
+one_token one other bytes prefix after rest is too same =
+    let short = is.longest other prefix rest (sym same) too.spelled in
     let long = too.longest one bytes after same is.spelled in
-    let split = same_split bytes front after rest (omega arith) same in
+    let split = same_split bytes prefix after rest (omega arith) same in
     let moved : IsToken other bytes after =
-    subst (λ rest. IsToken other bytes rest) (sym split.1) (subst (λ front. IsToken other front rest) (sym split.0) too.spelled) in
+    subst (λ rest. IsToken other bytes rest) (sym split.1) (subst (λ prefix. IsToken other prefix rest) (sym split.0) too.spelled) in
     (one_kind one other bytes after is.spelled moved, split.0, split.1)

@@ -27,7 +27,7 @@ pub record HasFault (text : List ℕ) (first : TextFault) : Type 0 where
   pub stopped : Stops lexemes rest bad_token
   pub named : IsFirst first (token_fault bad_token ++ line_faults (drafts_of lexemes))
 
--- what is to be answered for a text
+-- the answer for a text
 abbrev pub IsAnswer : List ℕ → Result (List Line) TextFault → Type 0
 IsAnswer text (Ok lines) = HasLines text lines
 IsAnswer text (Err fault.FileTooLong) = 2 ^ 20 < length text

@@ -15,7 +15,7 @@ continues_name byte = is_ascii_alphanumeric byte || byte == 95
 abbrev pub IsLineEnd : List ℕ → Type 0
 IsLineEnd bytes = (bytes ≡ LF ∷ []) ⊎ (bytes ≡ CR ∷ LF ∷ [])
 
--- the text is at its end, or a line ends there by an LF
+-- the text is empty, or begins with an LF
 abbrev pub IsAtLineEnd : List ℕ → Type 0
 IsAtLineEnd [] = Unit {0}
 IsAtLineEnd (byte ∷ text) = byte ≡ LF

@@ -1,7 +1,7 @@
 -- The faults of a text, and which of them is named.
 use Rattle.std.specs.Prelude.{◌≡◌, ◌⊎◌, ◌<◌, ◌≤◌, ◌+◌, ℕ, Bool, false, nat_lt, if◌then◌else◌, List, [], ◌∷◌, ◌++◌, All, length, Option, Some, None}
 use Rattle.std.specs.List.{Contains}
-use Rattle.pm_syn.specs.Indentation.{is_placed, columns_with}
+use Rattle.pm_syn.specs.Indentation.{is_allowed, columns_with}
 use Rattle.pm_syn.specs.declared.draft.Draft.{Draft}
 use Rattle.pm_syn.specs.declared.fault.TextFault.{TextFault}
 use Rattle.pm_syn.specs.declared.fault.TextFault.TheVariants as fault
@@ -21,21 +21,21 @@ abbrev pub length_of : List Token → ℕ
 length_of [] = 0
 length_of (token ∷ tokens) = counted token.kind (length token.text) + length_of tokens
 
--- the faults of a logical line behind lines at these columns
+-- the faults of a logical line after lines at these columns
 abbrev pub faults_of_line : List ℕ → Draft → List TextFault
 faults_of_line earlier draft =
-    (if is_placed draft.indentation earlier then [] else fault.BadIndent draft.number ∷ []) ++
+    (if is_allowed draft.indentation earlier then [] else fault.BadIndent draft.number ∷ []) ++
     (if nat_lt 4096 (length_of draft.tokens) then fault.LineTooLong draft.number ∷ [] else [])
 
 -- the faults of logical lines, in their order
-abbrev pub faults_behind : List ℕ → List Draft → List TextFault
-faults_behind earlier [] = []
-faults_behind earlier (draft ∷ drafts) =
-    faults_of_line earlier draft ++ faults_behind (columns_with draft.indentation earlier) drafts
+abbrev pub faults_of_lines : List ℕ → List Draft → List TextFault
+faults_of_lines earlier [] = []
+faults_of_lines earlier (draft ∷ drafts) =
+    faults_of_line earlier draft ++ faults_of_lines (columns_with draft.indentation earlier) drafts
 
--- the faults of all logical lines of a text; the first stands behind column 0
+-- the faults of all logical lines of a text; the first line is indented as if a line at column 0 were before it
 abbrev pub line_faults : List Draft → List TextFault
-line_faults drafts = faults_behind (0 ∷ []) drafts
+line_faults drafts = faults_of_lines (0 ∷ []) drafts
 
 -- the bad token's fault, if there is one
 abbrev pub token_fault : Option ℕ → List TextFault

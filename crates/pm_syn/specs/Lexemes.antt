@@ -13,14 +13,14 @@ pub record Lexeme : Type 0 where
   pub sort : Sort
   pub bytes : List ℕ
 
--- `#` and what stands behind it on its line
+-- `#` and what follows it on its line
 pub record IsComment (bytes after : List ℕ) : Type 0 where
   pub text : List ℕ
   pub spelled : bytes ≡ 35 ∷ text
   pub on_one_line : HasNoLineEnd text
   pub to_its_end : IsAtLineEnd after
 
--- a backslash and the line end directly behind it
+-- a backslash and the line end directly after it
 pub record IsJoining (bytes : List ℕ) : Type 0 where
   pub line_end : List ℕ
   pub spelled : bytes ≡ 92 ∷ line_end
@@ -30,14 +30,14 @@ pub record IsJoining (bytes : List ℕ) : Type 0 where
 abbrev pub IsGap : List ℕ → List ℕ → Type 0
 IsGap bytes after = (bytes ≡ 32 ∷ []) ⊎ (bytes ≡ 9 ∷ []) ⊎ IsComment bytes after ⊎ IsJoining bytes
 
--- a number of a token has at most 128 bits
+-- the number of a token has at most 128 bits
 abbrev pub HasWidth : TokenKind → Type 0
 HasWidth (kind.Int number) = number < 2 ^ 128
 HasWidth kind.Name = Unit {0}
 HasWidth kind.Str = Unit {0}
 HasWidth kind.Op = Unit {0}
 
--- a lexeme of the sort stands there, before this text
+-- the bytes are a lexeme of the sort, where this text follows them
 abbrev pub Stands : Sort → List ℕ → List ℕ → Type 0
 Stands sort.Gap bytes after = IsGap bytes after
 Stands sort.LineEnd bytes after = IsLineEnd bytes

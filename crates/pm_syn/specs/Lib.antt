@@ -7,7 +7,7 @@ pub mod Tokens
 pub mod Lexemes
 pub mod Heads
 pub mod Progress
-pub mod Places
+pub mod Positions
 pub mod Reading
 pub mod LogicalLines
 pub mod Indentation
@@ -17,5 +17,6 @@ pub mod Answers
 pub mod CutLines
 pub mod IndentedLines
 pub mod Spaces
+pub mod BadTokens
 pub mod Laws
 pub mod LiteralParts

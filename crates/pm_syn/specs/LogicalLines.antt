@@ -3,7 +3,7 @@ use Rattle.std.specs.Prelude.{◌+◌, ◌==◌, ℕ, if◌then◌else◌, List,
 use Rattle.std.specs.List.{list_any}
 use Rattle.std.specs.Option.{option_to_list}
 use Rattle.pm_syn.specs.Lexemes.{Lexeme}
-use Rattle.pm_syn.specs.Places.{last_line}
+use Rattle.pm_syn.specs.Positions.{last_line}
 use Rattle.pm_syn.specs.Reading.{bytes_of, line_of, brackets_of, are_closed}
 use Rattle.pm_syn.specs.declared.draft.Draft.{Draft}
 use Rattle.pm_syn.specs.declared.draft.Indentation.{Indentation}
@@ -14,16 +14,16 @@ use Rattle.pm_syn.specs.declared.token.Line.{Line}
 use Rattle.pm_syn.specs.declared.token.Token.{Token}
 use Rattle.pm_syn.specs.declared.token.TokenKind.{TokenKind}
 
--- the indentation that these bytes before the first token make
+-- the indentation, by the bytes before the first token on its line
 abbrev pub indentation_of : List ℕ → Indentation
 indentation_of bytes = if list_any (λ byte. byte == 9) bytes then indentation.Tabbed else indentation.Blanks (length bytes)
 
--- the token that these bytes are behind the lexemes
+-- the token that these bytes are after the lexemes
 abbrev pub token_of : List Lexeme → TokenKind → List ℕ → Token
 token_of before kind bytes =
     record { kind = kind; text = bytes; start = length (bytes_of before); end = length (bytes_of before) + length bytes }
 
--- the logical line that has begun, or one without tokens that begins on this line behind these bytes
+-- the logical line that has begun, or one without tokens that begins on this line after these bytes
 abbrev pub opened : ℕ → List ℕ → Option Draft → Draft
 opened line indent None = record { number = line; indentation = indentation_of indent; tokens = [] }
 opened line indent (Some draft) = draft
@@ -33,26 +33,26 @@ abbrev pub continued : ℕ → List ℕ → Option Draft → Token → Draft
 continued line indent draft token = let begun = opened line indent draft in record begun { tokens = begun.tokens ++ token ∷ [] }
 
 -- the logical line that has begun and hasn't ended, with its tokens so far
-abbrev pub begun_behind : List Lexeme → List ℕ → Sort → Option Draft → Option Draft
-begun_behind before bytes sort.Gap draft = draft
-begun_behind before bytes sort.LineEnd draft = if are_closed (brackets_of before) then None else draft
-begun_behind before bytes (sort.Token kind) draft = Some (continued (line_of before) (last_line (bytes_of before)) draft (token_of before kind bytes))
+abbrev pub begun_after : List Lexeme → List ℕ → Sort → Option Draft → Option Draft
+begun_after before bytes sort.Gap draft = draft
+begun_after before bytes sort.LineEnd draft = if are_closed (brackets_of before) then None else draft
+begun_after before bytes (sort.Token kind) draft = Some (continued (line_of before) (last_line (bytes_of before)) draft (token_of before kind bytes))
 
 abbrev pub begun_line : List Lexeme → Option Draft
 begun_line [] = None
-begun_line (lexeme ∷ before) = begun_behind before lexeme.bytes lexeme.sort (begun_line before)
+begun_line (lexeme ∷ before) = begun_after before lexeme.bytes lexeme.sort (begun_line before)
 
 -- the logical lines that have ended
-abbrev pub ended_behind : List Lexeme → Sort → List Draft → List Draft
-ended_behind before sort.Gap drafts = drafts
-ended_behind before sort.LineEnd drafts = if are_closed (brackets_of before) then drafts ++ option_to_list (begun_line before) else drafts
-ended_behind before (sort.Token kind) drafts = drafts
+abbrev pub ended_after : List Lexeme → Sort → List Draft → List Draft
+ended_after before sort.Gap drafts = drafts
+ended_after before sort.LineEnd drafts = if are_closed (brackets_of before) then drafts ++ option_to_list (begun_line before) else drafts
+ended_after before (sort.Token kind) drafts = drafts
 
 abbrev pub ended_lines : List Lexeme → List Draft
 ended_lines [] = []
-ended_lines (lexeme ∷ before) = ended_behind before lexeme.sort (ended_lines before)
+ended_lines (lexeme ∷ before) = ended_after before lexeme.sort (ended_lines before)
 
--- all logical lines, where the reading stops
+-- all logical lines, with the one that has begun
 abbrev pub drafts_of : List Lexeme → List Draft
 drafts_of before = ended_lines before ++ option_to_list (begun_line before)
 

@@ -1,5 +1,5 @@
 -- Integer literals: `0`, decimal digits that don't begin with 0, and `0x`, `0o`, `0b` with digits of their base.
--- An underscore may stand between two digits.
+-- An underscore is allowed between two digits.
 use Rattle.std.specs.Prelude.{◌≡◌, ◌≢◌, ◌⊎◌, ◌+◌, ◌*◌, ◌==◌, ℕ, IsTrue, if◌then◌else◌, List, [], ◌∷◌, ◌++◌, codes, Option, Some, None}
 use Rattle.std.specs.Char.{digit_value, is_digit}
 
@@ -9,14 +9,14 @@ pub data AreDigits (base : ℕ) : List ℕ → Type 0 where
   more : (digits : List ℕ) (digit : ℕ) → AreDigits base digits → IsTrue (is_digit digit base) → AreDigits base (digits ++ digit ∷ [])
   spaced : (digits : List ℕ) (digit : ℕ) → AreDigits base digits → IsTrue (is_digit digit base) → AreDigits base (digits ++ 95 ∷ digit ∷ [])
 
--- the number of digits that stand behind those of a number, underscores left out
-abbrev pub value_behind : ℕ → ℕ → List ℕ → ℕ
-value_behind base number [] = number
-value_behind base number (byte ∷ digits) = value_behind base (if byte == 95 then number else number * base + digit_value byte) digits
+-- the number of digits that follow those of a number, underscores left out
+abbrev pub value_after : ℕ → ℕ → List ℕ → ℕ
+value_after base number [] = number
+value_after base number (byte ∷ digits) = value_after base (if byte == 95 then number else number * base + digit_value byte) digits
 
 -- the number that digits of the base write
 abbrev pub value_of : ℕ → List ℕ → ℕ
-value_of base digits = value_behind base 0 digits
+value_of base digits = value_after base 0 digits
 
 -- the base that the second byte of a literal names
 abbrev pub base_of : ℕ → Option ℕ

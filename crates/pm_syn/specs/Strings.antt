@@ -1,9 +1,9 @@
 -- String literals: an optional prefix, then `'..'` or `".."` on one line, or `'''..'''` or `"""..."""`.
--- A backslash covers the byte behind it, but no LF in a string on one line. Where three quotes stand, they open a string of the second sort.
-use Rattle.std.specs.Prelude.{◌+◌, ◌==◌, ◌&&◌, ◌||◌, not, ℕ, Bool, if◌then◌else◌, List, [], ◌∷◌, Option, Some, None, option_map}
+-- A backslash covers the next byte, but no LF in a string on one line. Three quotes always open a string of the second sort.
+use Rattle.std.specs.Prelude.{◌+◌, ◌==◌, ◌&&◌, ◌||◌, ℕ, Bool, false, drop, if◌then◌else◌, List, [], ◌∷◌, Option, Some, None, option_map}
 use Rattle.pm_io.specs.declared.lines.TheConstants.{LF}
 
--- how many bytes stand up to the quote that closes a string on one line, with the quote
+-- how many bytes there are up to the quote that closes a string on one line, the quote included
 abbrev pub closing_quote : ℕ → List ℕ → Option ℕ
 closing_quote quote [] = None
 closing_quote quote (byte ∷ []) = if byte == quote then Some 1 else None
@@ -13,7 +13,7 @@ closing_quote quote (byte ∷ next ∷ text) =
     else if byte == 92 then (if next == LF then None else option_map (λ count. count + 2) (closing_quote quote text))
     else option_map (λ count. count + 1) (closing_quote quote (next ∷ text))
 
--- how many bytes stand up to the three quotes that close a string of any number of lines, with these quotes
+-- how many bytes there are up to the three quotes that close a string of any number of lines, these included
 abbrev pub closing_quotes : ℕ → List ℕ → Option ℕ
 closing_quotes quote [] = None
 closing_quotes quote (byte ∷ []) = None
@@ -31,17 +31,24 @@ is_quote byte = byte == 39 || byte == 34
 abbrev pub is_prefix : ℕ → Bool
 is_prefix byte = ((byte == 102 || byte == 70) || byte == 114) || byte == 82
 
--- how long the string is whose first quote stands there, where one is closed
+-- two more quotes follow the first
+abbrev pub are_two_more : ℕ → List ℕ → Bool
+are_two_more quote [] = false
+are_two_more quote (second ∷ []) = false
+are_two_more quote (second ∷ third ∷ text) = second == quote && third == quote
+
+-- how many bytes a string has, by its first quote and the text after it, if it is closed
+abbrev pub length_from : ℕ → List ℕ → Option ℕ
+length_from quote text =
+    if are_two_more quote text then option_map (λ count. count + 3) (closing_quotes quote (drop 2 text))
+    else option_map (λ count. count + 1) (closing_quote quote text)
+
+-- how long the string is that begins with a quote, if it is closed
 abbrev pub quoted_length : List ℕ → Option ℕ
 quoted_length [] = None
-quoted_length (quote ∷ []) = None
-quoted_length (quote ∷ next ∷ []) = if is_quote quote && next == quote then Some 2 else None
-quoted_length (quote ∷ next ∷ third ∷ text) =
-    if not (is_quote quote) then None
-    else if next == quote && third == quote then option_map (λ count. count + 3) (closing_quotes quote text)
-    else option_map (λ count. count + 1) (closing_quote quote (next ∷ third ∷ text))
+quoted_length (quote ∷ text) = if is_quote quote then length_from quote text else None
 
--- how long the string is that stands at the head of the text, where one does
+-- how long the string is with which the text begins, if there is one
 abbrev pub string_length : List ℕ → Option ℕ
 string_length [] = None
 string_length (byte ∷ text) =

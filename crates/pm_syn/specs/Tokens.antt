@@ -1,4 +1,4 @@
--- Tokens: what is spelled at the head of a text, and the longest that is.
+-- Tokens: what a text may begin with, and the longest of it.
 use Rattle.std.specs.Prelude.{◌≡◌, ◌≤◌, ℕ, IsTrue, List, ◌++◌, length, Some}
 use Rattle.pm_syn.specs.Names.{is_spelled_as_name}
 use Rattle.pm_syn.specs.Numbers.{IsLiteral}
@@ -7,7 +7,7 @@ use Rattle.pm_syn.specs.Operators.{is_operator}
 use Rattle.pm_syn.specs.declared.token.TokenKind.{TokenKind}
 use Rattle.pm_syn.specs.declared.token.TokenKind.TheVariants as kind
 
--- the bytes spell a token of the kind where this text follows them
+-- the bytes spell a token of the kind, if this text follows them
 abbrev pub IsToken : TokenKind → List ℕ → List ℕ → Type 0
 IsToken kind.Name bytes after = IsTrue (is_spelled_as_name bytes)
 IsToken (kind.Int number) bytes after = IsLiteral number bytes
@@ -17,4 +17,4 @@ IsToken kind.Op bytes after = IsTrue (is_operator bytes)
 -- they do, and no longer token is spelled there
 pub record IsLongestToken (kind : TokenKind) (bytes after : List ℕ) : Type 0 where
   pub spelled : IsToken kind bytes after
-  pub longest : (other : TokenKind) (front rest : List ℕ) → front ++ rest ≡ bytes ++ after → IsToken other front rest → length front ≤ length bytes
+  pub longest : (other : TokenKind) (prefix rest : List ℕ) → prefix ++ rest ≡ bytes ++ after → IsToken other prefix rest → length prefix ≤ length bytes

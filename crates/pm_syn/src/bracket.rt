@@ -2,12 +2,10 @@
 ghost use Rattle.std.specs.Prelude.{◌≡◌, OnOk, [], length};
 ghost use Rattle.pm_syn.specs.Reading as spec;
 
-use pm_io::NoMemory;
-use std::alloc::Global;
-use std::marker::Model;
+use pm_io::{NoMemory, Stack};
 
 /// An opening bracket that hasn't been closed.
-#[derive(Clone, Copy, Debug, PartialEq, Eq)]
+#[derive(Clone, Copy)]
 pub(crate) struct Bracket {
     /// The bracket itself.
     pub byte: u8,
@@ -16,7 +14,7 @@ pub(crate) struct Bracket {
 }
 
 /// What a token does to the brackets that are open.
-#[derive(Clone, Copy, Debug, PartialEq, Eq)]
+#[derive(Clone, Copy)]
 pub(crate) enum Nesting {
     Opens,
     Closes,
@@ -47,72 +45,53 @@ fn closing_of(opening: u8) -> u8
     }
 }
 
-/// The brackets that are open. Contracts see them from the innermost to the outermost.
-#[derive(Drop)]
-pub(crate) struct Brackets {
-    // From the outermost to the innermost.
-    open: Vec<Bracket>,
+// The functions below take the brackets that are open, innermost first.
+
+/// Whether no bracket is open.
+pub(crate) fn are_closed(open_brackets: &Stack<Bracket>) -> bool
+    ensures { result ≡ spec.are_closed open_brackets.now }
+{
+    open_brackets.top().is_none()
 }
 
-impl Model for Brackets {
-    ghost use Rattle.std.specs.Prelude.{List, reverse};
-    ghost use Rattle.pm_syn.specs.declared.bracket.Bracket.{Bracket};
-
-    ghost Value = { List Bracket };
-
-    ghost view = { λ brackets. reverse brackets.open.items };
+/// Opens or closes what a token on this line opens or closes.
+pub(crate) fn nest(
+    open_brackets: &mut Stack<Bracket>,
+    token: &[u8],
+    line: u32,
+) -> Result<(), NoMemory>
+    ensures { OnOk result (open_brackets.new ≡ spec.nested (spec.nesting_of token.now) line (spec.byte_of token.now) open_brackets.old) }
+{
+    match nesting_of(token) {
+        Nesting::Opens => open_brackets.push(Bracket {
+            byte: token[0],
+            line,
+        })?,
+        Nesting::Closes => {
+            open_brackets.pop();
+        }
+        Nesting::Keeps => {}
+    }
+    Ok(())
 }
 
-impl Brackets {
-    pub fn new(alloc: Global) -> Brackets
-        ensures { result ≡ [] }
-    {
-        Brackets {
-            open: Vec::new(alloc),
-        }
+/// The line to name if a token on this line closes a bracket wrongly.
+pub(crate) fn wrongly_closed(open_brackets: &Stack<Bracket>, token: &[u8], line: u32) -> Option<u32>
+    ensures { result ≡ spec.bad_nesting (spec.nesting_of token.now) line (spec.byte_of token.now) open_brackets.now }
+{
+    match nesting_of(token) {
+        Nesting::Opens | Nesting::Keeps => None,
+        Nesting::Closes => match open_brackets.top() {
+            None => Some(line),
+            Some(innermost) if closing_of(innermost.byte) == token[0] => None,
+            Some(innermost) => Some(innermost.line),
+        },
     }
+}
 
-    pub fn are_closed(&self) -> bool
-        ensures { result ≡ spec.are_closed self.now }
-    {
-        self.open.is_empty()
-    }
-
-    /// Opens or closes what a token on this line opens or closes.
-    pub fn nest(&mut self, token: &[u8], line: u32) -> Result<(), NoMemory>
-        ensures { OnOk result (self.new ≡ spec.nested (spec.nesting_of token.now) line (spec.byte_of token.now) self.old) }
-    {
-        match nesting_of(token) {
-            Nesting::Opens => self.open.push(Bracket {
-                byte: token[0],
-                line,
-            })?,
-            Nesting::Closes => {
-                self.open.pop();
-            }
-            Nesting::Keeps => {}
-        }
-        Ok(())
-    }
-
-    /// The line that is bad where a token on this line closes a bracket wrongly.
-    pub fn wrongly_closed(&self, token: &[u8], line: u32) -> Option<u32>
-        ensures { result ≡ spec.bad_nesting (spec.nesting_of token.now) line (spec.byte_of token.now) self.now }
-    {
-        match nesting_of(token) {
-            Nesting::Opens | Nesting::Keeps => None,
-            Nesting::Closes => match self.open.last() {
-                None => Some(line),
-                Some(innermost) if closing_of(innermost.byte) == token[0] => None,
-                Some(innermost) => Some(innermost.line),
-            },
-        }
-    }
-
-    /// The line of the outermost bracket, if one is open.
-    pub fn unclosed(&self) -> Option<u32>
-        ensures { result ≡ spec.unclosed self.now }
-    {
-        self.open.first().map(|outermost| outermost.line)
-    }
+/// The line of the outermost bracket, if one is open.
+pub(crate) fn unclosed(open_brackets: &Stack<Bracket>) -> Option<u32>
+    ensures { result ≡ spec.unclosed open_brackets.now }
+{
+    open_brackets.bottom().map(|outermost| outermost.line)
 }

@@ -6,17 +6,17 @@ use crate::token::{Line, Token};
 use pm_io::{List, NoMemory};
 use std::alloc::Global;
 
-/// What stands before the first token of a logical line.
-#[derive(Clone, Copy, Debug, PartialEq, Eq)]
+/// What is before the first token of a logical line.
+#[derive(Clone, Copy)]
 pub(crate) enum Indentation {
-    /// So many blanks.
+    /// This many blanks.
     Blanks(u32),
-    /// A tab, and what else there is.
+    /// A tab, and anything else.
     Tabbed,
 }
 
 impl Indentation {
-    /// The indentation that these bytes make, which are blanks and tabs.
+    /// The indentation of a line that begins with these bytes, which are blanks and tabs.
     pub fn of(bytes: &[u8]) -> Indentation
         requires { length bytes.now < 2 ^ 32 }
         ensures { result ≡ spec.indentation_of bytes.now }
@@ -39,8 +39,8 @@ impl Indentation {
     }
 }
 
-/// A logical line as it is read.
-#[derive(Debug, Drop)]
+/// A logical line while it is read.
+#[derive(Drop)]
 pub(crate) struct Draft {
     pub number: u32,
     pub indentation: Indentation,

@@ -3,14 +3,14 @@ use pm_io::{Boxed, List, Text};
 
 /// An expression.
 #[cycle(expr)]
-#[derive(Debug, Drop)]
+#[derive(Drop)]
 pub enum Expr {
     Name(Text),
     Int(u128),
     Bool(bool),
     Unary(UnaryOp, Boxed<Expr>),
     Binary(BinaryOp, Boxed<Expr>, Boxed<Expr>),
-    /// `a if c else b`: the value where the condition holds, the condition, the other value.
+    /// `a if c else b`: the value if the condition holds, the condition, the other value.
     Cond(Boxed<Expr>, Boxed<Expr>, Boxed<Expr>),
     /// `a.name`.
     Attr(Boxed<Expr>, Text),
@@ -28,15 +28,15 @@ pub enum Expr {
 
 /// An argument of a call.
 #[cycle(expr)]
-#[derive(Debug, Drop)]
+#[derive(Drop)]
 pub struct Arg {
-    /// The parameter that it is for, where it names one.
+    /// The parameter that it names, if any.
     pub name: Option<Text>,
     pub value: Expr,
 }
 
 /// An operator before its operand.
-#[derive(Clone, Copy, Debug, PartialEq, Eq)]
+#[derive(Clone, Copy)]
 pub enum UnaryOp {
     Minus,
     Plus,
@@ -46,7 +46,7 @@ pub enum UnaryOp {
 }
 
 /// An operator between its operands.
-#[derive(Clone, Copy, Debug, PartialEq, Eq)]
+#[derive(Clone, Copy)]
 pub enum BinaryOp {
     Or,
     And,

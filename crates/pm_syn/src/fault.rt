@@ -3,33 +3,29 @@ ghost use Rattle.std.specs.Prelude.{◌≡◌};
 ghost use Rattle.pm_syn.specs.Faults as spec;
 
 use pm_io::NoMemory;
-use thiserror::Error;
+use std::error::Error;
+use std::fmt::{self, Display, Formatter, Write};
 
 /// The greatest size of a design file, in bytes.
 pub(crate) const MAX_FILE: usize = 1 << 20;
 
-/// The greatest length of a logical line: how many bytes its tokens may have, strings left out.
+/// The greatest length of a logical line: the bytes of its tokens other than strings.
 pub(crate) const MAX_LINE: usize = 4096;
 
 /// Why a text has no logical lines. Each fault but the first and the last names a line of the text, counted from 1.
-#[derive(Clone, Copy, Debug, Drop, Error, PartialEq, Eq)]
+#[derive(Clone, Copy, Debug, Drop)]
 pub enum TextFault {
     /// The file has more than 2^20 bytes.
-    #[error("the file has more than 1048576 bytes")]
     FileTooLong,
-    /// A byte that begins no token, a backslash that isn't directly before a line end, a name directly behind a number,
-    /// an integer past 2^128 - 1, a string or a bracket that isn't closed, or a closing bracket that doesn't fit the
-    /// innermost open one.
-    #[error("line {0}: a bad token, or a bracket that doesn't fit")]
+    /// A byte that begins no token, a backslash that isn't directly before a line end, a name directly after a number,
+    /// an integer greater than 2^128 - 1, a string or a bracket that isn't closed, or a closing bracket that doesn't fit
+    /// the innermost open one.
     BadToken(u32),
-    /// A tab in the indentation of a logical line, or a column to which no earlier line leads back.
-    #[error("line {0}: no line may stand at this column")]
+    /// A tab in the indentation of a logical line, or a smaller column at which no earlier line begins a block.
     BadIndent(u32),
     /// A logical line whose tokens other than strings have more than 4,096 bytes.
-    #[error("line {0}: the logical line has more than 4096 bytes of tokens")]
     LineTooLong(u32),
     /// Memory ran out.
-    #[error("out of memory")]
     NoMemory,
 }
 
@@ -46,6 +42,29 @@ impl TextFault {
         }
     }
 }
+
+impl Display for TextFault {
+    fn fmt<W: Write>(&self, f: &mut Formatter<W>) -> fmt::Result {
+        match self {
+            TextFault::FileTooLong => write!(f, "the file has more than 1048576 bytes"),
+            TextFault::BadToken(line) => {
+                write!(f, "line {line}: a bad token, or a bracket that doesn't fit")
+            }
+            TextFault::BadIndent(line) => {
+                write!(f, "line {line}: no line is allowed at this column")
+            }
+            TextFault::LineTooLong(line) => {
+                write!(
+                    f,
+                    "line {line}: the logical line has more than 4096 bytes of tokens"
+                )
+            }
+            TextFault::NoMemory => write!(f, "out of memory"),
+        }
+    }
+}
+
+impl Error for TextFault {}
 
 impl From<NoMemory> for TextFault {
     ghost use Rattle.pm_syn.specs.declared.fault.TextFault.TheVariants as fault;

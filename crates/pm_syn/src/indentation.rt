@@ -1,4 +1,4 @@
-//! The faults of logical lines: a column at which no line may stand, and too many bytes.
+//! The faults of logical lines: a column that isn't allowed, and too many bytes.
 ghost use Rattle.std.specs.Prelude.{◌≡◌, IfOk, OnOk, slice_get, length, nat_lt, [], ◌∷◌};
 ghost use Rattle.pm_syn.specs.Faults as spec;
 ghost use Rattle.pm_syn.specs.Indentation as indent;
@@ -7,27 +7,24 @@ ghost use Rattle.pm_syn.specs.ColumnStack as stack;
 use crate::draft::{Draft, Indentation};
 use crate::fault::{MAX_LINE, TextFault};
 use crate::token::{Token, TokenKind};
-use pm_io::NoMemory;
+use pm_io::{NoMemory, Stack};
 use std::alloc::Global;
-use std::marker::Model;
 
 /// The first fault of the logical lines, if they have one.
 pub(crate) fn first_fault(alloc: Global, drafts: &[Draft]) -> Result<Option<TextFault>, NoMemory>
     ensures { IfOk result (λ fault. fault ≡ slice_get (spec.line_faults drafts.now) 0) }
 {
-    let mut columns = Columns::new(alloc)?;
+    let mut columns = Stack::new(alloc);
+    columns.push(0)?;
     for draft in drafts {
-        if !columns.place(draft.indentation)? {
-            return Ok(Some(TextFault::BadIndent(draft.number)));
-        }
-        if is_too_long(draft.tokens.as_slice()) {
-            return Ok(Some(TextFault::LineTooLong(draft.number)));
+        if let Some(fault) = fault_of(&mut columns, draft)? {
+            return Ok(Some(fault));
         }
     }
     Ok(None)
 }
 
-/// Whether the tokens other than strings have more bytes than a logical line may have.
+/// Whether the tokens other than strings have more bytes than a logical line is allowed.
 fn is_too_long(tokens: &[Token]) -> bool
     ensures { result ≡ nat_lt 4096 (spec.length_of tokens.now) }
 {
@@ -52,87 +49,78 @@ fn counted(token: &Token) -> usize
     }
 }
 
-/// The columns to which a line may return: that of the line before it, and those of the lines that this one is deeper
-/// than. Contracts see them from the nearest to the first.
-#[derive(Drop)]
-struct Columns {
-    // From the first to the nearest.
-    columns: Vec<u32>,
+// The functions below take the columns to which a line may return, innermost first: the column of the line before it, and
+// those of the lines around that one.
+
+/// Adds a line, and returns its first fault, if it has one.
+fn fault_of(columns: &mut Stack<u32>, draft: &Draft) -> Result<Option<TextFault>, NoMemory>
+    ensures fault { IfOk result (λ fault. fault ≡ slice_get (spec.faults_of_line columns.old draft.now) 0) }
+    ensures columns { OnOk result (columns.new ≡ stack.after_line draft.now.indentation columns.old) }
+{
+    if !add_line(columns, draft.indentation)? {
+        return Ok(Some(TextFault::BadIndent(draft.number)));
+    }
+    if is_too_long(draft.tokens.as_slice()) {
+        return Ok(Some(TextFault::LineTooLong(draft.number)));
+    }
+    Ok(None)
 }
 
-impl Model for Columns {
-    ghost use Rattle.std.specs.Prelude.{ℕ, List, reverse};
-
-    ghost Value = { List ℕ };
-
-    ghost view = { λ it. reverse it.columns.items };
+/// Adds a line, and returns whether its column is allowed.
+fn add_line(columns: &mut Stack<u32>, indentation: Indentation) -> Result<bool, NoMemory>
+    ensures allowed { IfOk result (λ allowed. allowed ≡ indent.is_allowed indentation columns.old) }
+    ensures columns { OnOk result (columns.new ≡ stack.after_line indentation columns.old) }
+{
+    match indentation {
+        Indentation::Tabbed => Ok(false),
+        Indentation::Blanks(column) => add_column(columns, column),
+    }
 }
 
-impl Columns {
-    fn new(alloc: Global) -> Result<Columns, NoMemory>
-        ensures { IfOk result (λ columns. columns ≡ 0 ∷ []) }
-    {
-        Ok(Columns {
-            columns: vec![in alloc; 0; 1]?,
-        })
+fn add_column(columns: &mut Stack<u32>, column: u32) -> Result<bool, NoMemory>
+    ensures allowed { IfOk result (λ allowed. allowed ≡ indent.is_column column columns.old) }
+    ensures columns { OnOk result (columns.new ≡ stack.after_column column columns.old) }
+{
+    if is_deeper(columns, column) {
+        columns.push(column)?;
+        return Ok(true);
     }
+    return_to(columns, column);
+    Ok(is_at(columns, column))
+}
 
-    /// Places a line, and answers whether it may stand at its column.
-    fn place(&mut self, indentation: Indentation) -> Result<bool, NoMemory>
-        ensures placed { IfOk result (λ placed. placed ≡ indent.is_placed indentation self.old) }
-        ensures columns { OnOk result (self.new ≡ stack.behind_line indentation self.old) }
-    {
-        match indentation {
-            Indentation::Tabbed => Ok(false),
-            Indentation::Blanks(column) => self.place_at(column),
-        }
+/// Removes the columns that are greater than this one.
+fn return_to(columns: &mut Stack<u32>, column: u32)
+    ensures { columns.new ≡ stack.down_to column columns.old }
+{
+    while is_above(columns, column) {
+        columns.pop();
     }
+}
 
-    fn place_at(&mut self, column: u32) -> Result<bool, NoMemory>
-        ensures placed { IfOk result (λ placed. placed ≡ indent.is_column column self.old) }
-        ensures columns { OnOk result (self.new ≡ stack.behind_column column self.old) }
-    {
-        if self.is_deeper(column) {
-            self.columns.push(column)?;
-            return Ok(true);
-        }
-        self.return_to(column);
-        Ok(self.is_at(column))
+fn is_deeper(columns: &Stack<u32>, column: u32) -> bool
+    ensures { result ≡ indent.is_deeper column columns.now }
+{
+    match columns.top() {
+        Some(nearest) => *nearest < column,
+        None => true,
     }
+}
 
-    /// Leaves the columns that are deeper than this one.
-    fn return_to(&mut self, column: u32)
-        ensures { self.new ≡ stack.down_to column self.old }
-    {
-        while self.is_above(column) {
-            self.columns.pop();
-        }
+fn is_above(columns: &Stack<u32>, column: u32) -> bool
+    ensures { result ≡ stack.is_above column columns.now }
+{
+    match columns.top() {
+        Some(nearest) => *nearest > column,
+        None => false,
     }
+}
 
-    fn is_deeper(&self, column: u32) -> bool
-        ensures { result ≡ indent.is_deeper column self.now }
-    {
-        match self.columns.last() {
-            Some(nearest) => *nearest < column,
-            None => true,
-        }
-    }
-
-    fn is_above(&self, column: u32) -> bool
-        ensures { result ≡ stack.is_above column self.now }
-    {
-        match self.columns.last() {
-            Some(nearest) => *nearest > column,
-            None => false,
-        }
-    }
-
-    fn is_at(&self, column: u32) -> bool
-        ensures { result ≡ stack.is_nearest column self.now }
-    {
-        match self.columns.last() {
-            Some(nearest) => *nearest == column,
-            None => false,
-        }
+fn is_at(columns: &Stack<u32>, column: u32) -> bool
+    ensures { result ≡ stack.is_nearest column columns.now }
+{
+    match columns.top() {
+        Some(nearest) => *nearest == column,
+        None => false,
     }
 }

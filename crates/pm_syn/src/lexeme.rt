@@ -1,4 +1,4 @@
-//! What stands at the head of a text: a gap, a line end or a token.
+//! What a text begins with: a gap, a line end or a token.
 ghost use Rattle.std.specs.Prelude.{◌≡◌, ◌<◌, ◌≤◌, ◌++◌, take_while, List, ℕ, length, take, drop, MatchOption, slice_index};
 ghost use Rattle.pm_syn.specs.Bytes as bytes;
 ghost use Rattle.pm_syn.specs.Lexemes.{IsComment};
@@ -14,16 +14,16 @@ use memchr::memchr;
 use pm_io::{CR, LF};
 
 /// What a lexeme is.
-#[derive(Clone, Copy, Debug, PartialEq, Eq)]
+#[derive(Clone, Copy)]
 pub(crate) enum Sort {
-    /// A blank, a tab, a comment, or a line end behind a backslash.
+    /// A blank, a tab, a comment, or a backslash and the line end after it.
     Gap,
     LineEnd,
     Token(TokenKind),
 }
 
-/// The lexeme at the head of a text: what it is, and how many bytes it has.
-#[derive(Clone, Copy, Debug, PartialEq, Eq)]
+/// The lexeme with which a text begins: what it is, and how many bytes it has.
+#[derive(Clone, Copy)]
 pub(crate) struct Head {
     pub sort: Sort,
     pub length: usize,
@@ -40,7 +40,7 @@ impl Head {
     }
 }
 
-/// The lexeme at the head of the text, where one stands there.
+/// The lexeme with which the text begins, if there is one.
 pub(crate) fn head_of(text: &[u8]) -> Option<Head>
     requires { 0 < length text.now }
     ensures { MatchOption result (HasNoHead text.now) (λ head. IsHead text.now head) }
@@ -72,7 +72,7 @@ pub(crate) fn head_of(text: &[u8]) -> Option<Head>
     }
 }
 
-/// How long the line end at the head of the text is, where one stands there.
+/// How long the line end is with which the text begins, if there is one.
 fn line_end_length(text: &[u8]) -> Option<usize>
     ensures within { MatchOption result (Unit {0}) (λ count. count ≤ length text.now) }
     ensures found { MatchOption result ((bytes after : List ℕ) → text.now ≡ bytes ++ after → IsLineEnd bytes → ⊥) (λ count. IsLineEnd (take count text.now)) }
@@ -84,7 +84,7 @@ fn line_end_length(text: &[u8]) -> Option<usize>
     }
 }
 
-/// How long the comment at the head of the text is, without the LF that ends its line.
+/// How long the comment is with which the text begins, without the LF that ends its line.
 fn comment_length(text: &[u8]) -> usize
     requires begun { slice_index text.now 0 ≡ 35 }
     requires some { 0 < length text.now }
@@ -97,7 +97,7 @@ fn comment_length(text: &[u8]) -> usize
     }
 }
 
-/// The token at the head of the text, where one stands there.
+/// The token with which the text begins, if there is one.
 fn token_at(text: &[u8]) -> Option<Head>
     requires { 0 < length text.now }
     ensures { MatchOption result (HasNoToken text.now) (λ head. IsHead text.now head) }
@@ -116,7 +116,7 @@ fn token_at(text: &[u8]) -> Option<Head>
     Some(Head::token(TokenKind::Op, operator_length(text)?))
 }
 
-/// How many bytes of a name stand at the head of the text.
+/// How many bytes the name has with which the text begins.
 fn name_length(text: &[u8]) -> usize
     ensures { result ≡ length (take_while bytes.continues_name text.now) }
 {

@@ -6,6 +6,7 @@ ghost use Rattle.pm_syn.specs.Progress.{IsRead, named};
 ghost use Rattle.pm_syn.specs.declared.fault.TextFault.{TextFault as TheFault};
 ghost use Rattle.pm_syn.specs.declared.token.Line.{Line as TheLine};
 
+use crate::bracket::unclosed;
 use crate::draft::{Draft, lines_from};
 use crate::fault::{MAX_FILE, TextFault};
 use crate::indentation::first_fault;
@@ -17,9 +18,9 @@ use std::alloc::Global;
 
 /// The logical lines of a text.
 ///
-/// `FileTooLong` comes exactly where the text has more than 2^20 bytes. Else the text is read up to its end or its
-/// first bad token, and the fault of the least line is named; on one line a bad token, then a bad indentation, then a
-/// line that is too long.
+/// `FileTooLong` is returned if and only if the text has more than 2^20 bytes. Otherwise the text is read up to its end
+/// or its first bad token, and the fault on the first line is returned; on one line a bad token, else a bad
+/// indentation, else a line that is too long.
 pub fn lex(alloc: Global, bytes: &[u8]) -> Result<List<Line>, TextFault>
     ensures answer { (result ≡ Err TextFault.NoMemory) ⊎ IsAnswer bytes.now result }
     ensures only { (answer : Result (List TheLine) TheFault) → IsAnswer bytes.now answer → (result ≡ Err TextFault.NoMemory) ⊎ (result ≡ answer) }
@@ -53,7 +54,7 @@ fn read(alloc: Global, text: &[u8]) -> Result<ReadText, NoMemory>
     let mut at = 0;
     'lexemes: while at < text.len() {
         let Some(head) = head_of(&text[at..]) else {
-            let line = reader.place.line;
+            let line = reader.line.number;
             return stop(reader, Some(line));
         };
         if let Some(line) = reader.misfit(head.sort, &text[at..at + head.length]) {
@@ -62,7 +63,7 @@ fn read(alloc: Global, text: &[u8]) -> Result<ReadText, NoMemory>
         reader.take(alloc, text, at, head)?;
         at += head.length;
     }
-    let unclosed = reader.brackets.unclosed();
+    let unclosed = unclosed(&reader.brackets);
     stop(reader, unclosed)
 }
 
@@ -75,7 +76,7 @@ fn stop(reader: Reader, bad_token: Option<u32>) -> Result<ReadText, NoMemory>
     })
 }
 
-/// The fault that is named: that of the bad token, unless an earlier line has one.
+/// The fault to return: the bad token's, unless an earlier line has one.
 fn named_fault(bad_token: Option<u32>, line_fault: Option<TextFault>) -> Option<TextFault>
     ensures { result ≡ named bad_token line_fault }
 {

@@ -1,13 +1,11 @@
 //! The text of a design file: its tokens and logical lines, and the types of the syntax tree that they make.
 //!
-//! `lex` reads a text into its logical lines, or names the first fault of the text. A text has at most one of these
-//! answers, and `laws` carries that. `is_keyword` and `is_proper_name` tell the words that are names. The syntax tree is
-//! data alone; the parser makes it.
+//! `lex` reads a text into its logical lines, or names the first fault of the text. Each text has exactly one of these
+//! answers; `laws` says so, and which lines they are. `is_keyword` says whether a word is reserved, and `is_proper_name`
+//! whether it is spelled as a name and not reserved. The syntax tree is data alone; the parser makes it.
 #![tactic(auto)]
 
 mod bracket;
-#[cfg(test)]
-mod design_tests;
 mod draft;
 mod expression;
 mod fault;
@@ -18,12 +16,10 @@ mod lexing;
 mod name;
 mod number;
 mod operator;
-mod place;
 mod reader;
 mod statement;
 mod string;
-#[cfg(test)]
-mod tests;
+mod text_line;
 mod token;
 
 pub use expression::{Arg, BinaryOp, Expr, UnaryOp};

@@ -6,13 +6,13 @@ ghost use Rattle.pm_syn.specs.Heads.{IsLongestLiteral, AreLongestDigits, BeginsW
 ghost use Rattle.pm_syn.specs.LiteralParts.{IsNextDigit, HasNoNextDigit, HasNoBased};
 
 /// An integer literal: how many bytes it has, and its number, if that has at most 128 bits.
-#[derive(Clone, Copy, Debug, PartialEq, Eq)]
+#[derive(Clone, Copy)]
 pub(crate) struct Literal {
     pub length: usize,
     pub number: Option<u128>,
 }
 
-/// The longest literal at the head of a text that begins with a decimal digit.
+/// The longest literal with which a text begins that begins with a decimal digit.
 pub(crate) fn literal_at(text: &[u8]) -> Literal
     requires { BeginsWithDigit 10 text.now }
     ensures { IsLongestLiteral text.now result }
@@ -29,17 +29,19 @@ pub(crate) fn literal_at(text: &[u8]) -> Literal
     }
 }
 
-/// The longest literal with a base at the head of a text that begins with `0`.
+/// The longest literal with a base, where the text begins with `0`.
 fn based_at(text: &[u8]) -> Option<Literal>
     requires { slice_index text.now 0 ≡ 48 }
     ensures { MatchOption result (HasNoBased text.now) (λ literal. IsLongestLiteral text.now literal) }
 {
-    let base = base_of(*text.get(1)?)?;
-    let digit = *text.get(2)?;
-    if !char::from(digit).is_digit(base) {
+    let [_, letter, rest @ ..] = text else {
+        return None;
+    };
+    let base = base_of(*letter)?;
+    if !is_digit_at(base, rest, 0) {
         return None;
     }
-    let digits = digits_at(base, &text[2..]);
+    let digits = digits_at(base, rest);
     Some(Literal {
         length: digits.length + 2,
         number: digits.number,
@@ -58,7 +60,7 @@ fn base_of(letter: u8) -> Option<u32>
     }
 }
 
-/// The longest digits at the head of a text that begins with one.
+/// The longest digits with which a text begins, where it begins with one.
 fn digits_at(base: u32, text: &[u8]) -> Literal
     requires base { (2 ≤ base) × (base ≤ 16) }
     requires digit { BeginsWithDigit base text.now }
@@ -68,38 +70,39 @@ fn digits_at(base: u32, text: &[u8]) -> Literal
         length: 0,
         number: Some(0),
     };
-    'digits: while let Some(place) = next_digit(base, text, literal.length) {
+    'digits: while let Some(position) = next_digit(base, text, literal.length) {
         literal = Literal {
-            length: place + 1,
-            number: with_digit(literal.number, base, text[place]),
+            length: position + 1,
+            number: with_digit(literal.number, base, text[position]),
         };
     }
     literal
 }
 
-/// Where the next digit of a literal stands whose digits so far end there: there, or behind an underscore.
+/// Where the next digit is of a literal whose digits so far end there: there, or after an underscore.
 fn next_digit(base: u32, text: &[u8], end: usize) -> Option<usize>
     requires base { (2 ≤ base) × (base ≤ 16) }
     requires within { end ≤ length text.now }
-    ensures { MatchOption result (HasNoNextDigit base text.now end) (λ place. IsNextDigit base text.now end place) }
+    ensures { MatchOption result (HasNoNextDigit base text.now end) (λ position. IsNextDigit base text.now end position) }
 {
     if is_digit_at(base, text, end) {
         return Some(end);
     }
-    if end > 0 && text.get(end) == Some(&b'_') && is_digit_at(base, text, end + 1) {
+    if end > 0 && is_digit_at(base, text, end + 1) && text[end] == b'_' {
         return Some(end + 1);
     }
     None
 }
 
-fn is_digit_at(base: u32, text: &[u8], place: usize) -> bool
+fn is_digit_at(base: u32, text: &[u8], position: usize) -> bool
     requires { (2 ≤ base) × (base ≤ 16) }
-    ensures { result ≡ is_digit (slice_index text.now place) base }
+    ensures value { result ≡ is_digit (slice_index text.now position) base }
+    ensures within { IsTrue result → position < length text.now }
 {
-    place < text.len() && char::from(text[place]).is_digit(base)
+    position < text.len() && char::from(text[position]).is_digit(base)
 }
 
-/// The number with one more digit, where it has at most 128 bits.
+/// The number with one more digit, if it has at most 128 bits.
 fn with_digit(number: Option<u128>, base: u32, digit: u8) -> Option<u128>
     requires base { (2 ≤ base) × (base ≤ 16) }
     requires digit { IsTrue (is_digit digit base) }

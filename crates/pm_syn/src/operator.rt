@@ -11,7 +11,7 @@ const TWO_BYTES: [[u8; 2]; 19] = [
 
 const ONE_BYTE: [u8; 23] = *b"+-*/%&|^~<>=()[]{},:.;@";
 
-/// How long the longest operator at the head of the text is, where one stands there.
+/// How long the longest operator is with which the text begins, if there is one.
 pub(crate) fn operator_length(text: &[u8]) -> Option<usize>
     ensures { MatchOption result (HasNoOperator text.now) (λ count. IsLongestOperator text.now count) }
 {
@@ -26,21 +26,21 @@ pub(crate) fn operator_length(text: &[u8]) -> Option<usize>
     }
 }
 
-/// Whether an operator of three bytes stands at the head of the text.
+/// Whether the text begins with an operator of three bytes.
 fn begins_with_three(text: &[u8]) -> bool
     ensures { result ≡ has_operator 3 text.now }
 {
     text.len() >= 3 && THREE_BYTES.contains(&[text[0], text[1], text[2]])
 }
 
-/// Whether an operator of two bytes stands at the head of the text.
+/// Whether the text begins with an operator of two bytes.
 fn begins_with_two(text: &[u8]) -> bool
     ensures { result ≡ has_operator 2 text.now }
 {
     text.len() >= 2 && TWO_BYTES.contains(&[text[0], text[1]])
 }
 
-/// Whether an operator of one byte stands at the head of the text.
+/// Whether the text begins with an operator of one byte.
 fn begins_with_one(text: &[u8]) -> bool
     ensures { result ≡ has_operator 1 text.now }
 {

@@ -5,27 +5,27 @@ ghost use Rattle.std.specs.Option.{option_to_list};
 ghost use Rattle.pm_syn.specs.Lexemes.{Lexeme};
 ghost use Rattle.pm_syn.specs.LogicalLines.{continued};
 ghost use Rattle.pm_syn.specs.LogicalLines as lines;
-ghost use Rattle.pm_syn.specs.Progress.{HasRead, IsElsewhereSame, begun_behind_line_end, begun_with, ended_behind_line_end, ended_with};
+ghost use Rattle.pm_syn.specs.Progress.{HasRead, IsElsewhereSame, begun_after_line_end, begun_with, ended_after_line_end, ended_with};
 ghost use Rattle.pm_syn.specs.Reading.{misfit};
 ghost use Rattle.pm_syn.specs.Reading as spec;
 
-use crate::bracket::Brackets;
+use crate::bracket::{Bracket, are_closed, nest, wrongly_closed};
 use crate::draft::{Draft, Indentation};
 use crate::lexeme::{Head, Sort};
-use crate::place::Place;
+use crate::text_line::TextLine;
 use crate::token::{Token, TokenKind};
-use pm_io::{List, NoMemory, Text};
+use pm_io::{List, NoMemory, Stack, Text};
 use std::alloc::Global;
 
 /// What has been read of a text.
 #[derive(Drop)]
 pub(crate) struct Reader {
-    /// The line behind it.
-    pub place: Place,
+    /// The line on which reading continues.
+    pub line: TextLine,
     /// The sort of the last lexeme.
     pub last: Sort,
-    /// The brackets that are open.
-    pub brackets: Brackets,
+    /// The brackets that are open, innermost first.
+    pub brackets: Stack<Bracket>,
     /// The logical lines that have ended.
     pub ended: Vec<Draft>,
     /// The logical line that has begun and hasn't ended.
@@ -37,27 +37,30 @@ impl Reader {
         ensures { (text : List ℕ) → HasRead text 0 [] result }
     {
         Reader {
-            place: Place { line: 1, start: 0 },
+            line: TextLine {
+                number: 1,
+                start: 0,
+            },
             last: Sort::Gap,
-            brackets: Brackets::new(alloc),
+            brackets: Stack::new(alloc),
             ended: Vec::new(alloc),
             begun: None,
         }
     }
 
-    /// The line of the bad token that a lexeme of this sort would be, if it would be one.
+    /// The line to name if a lexeme of this sort would be a bad token.
     pub fn misfit(&self, sort: Sort, bytes: &[u8]) -> Option<u32>
         ensures { (text : List ℕ) (at : ℕ) (before : List Lexeme) → HasRead text at before self.now →
             result ≡ misfit before (record { sort = sort; bytes = bytes.now }) }
     {
-        if is_name_behind_number(self.last, sort) {
-            Some(self.place.line)
+        if is_name_after_number(self.last, sort) {
+            Some(self.line.number)
         } else {
-            self.brackets.wrongly_closed(bytes, self.place.line)
+            wrongly_closed(&self.brackets, bytes, self.line.number)
         }
     }
 
-    /// Reads the lexeme that stands there.
+    /// Reads the lexeme that begins there.
     pub fn take(
         &mut self,
         alloc: Global,
@@ -67,21 +70,21 @@ impl Reader {
     ) -> Result<(), NoMemory>
         requires fits { length text.now ≤ 2 ^ 20 }
         requires within { at + head.length ≤ length text.now }
-        requires line { self.old.place.line ≤ at + 1 }
-        requires start { self.old.place.start ≤ at }
+        requires line { self.old.line.number ≤ at + 1 }
+        requires start { self.old.line.start ≤ at }
         ensures { OnOk result ((before : List Lexeme) → HasRead text.now at before self.old →
             HasRead text.now (at + head.length) (record { sort = head.sort; bytes = between at (at + head.length) text.now } ∷ before) self.new) }
     {
-        let indent = &text[self.place.start..at];
+        let indent = &text[self.line.start..at];
         let bytes = &text[at..at + head.length];
         self.add(alloc, head.sort, at, indent, bytes)?;
-        self.brackets.nest(bytes, self.place.line)?;
+        nest(&mut self.brackets, bytes, self.line.number)?;
         self.last = head.sort;
-        self.place = self.place.behind(at, bytes);
+        self.line = self.line.after(at, bytes);
         Ok(())
     }
 
-    /// Ends the logical line, begins it or adds to it, as a lexeme at this place does behind these bytes of its line.
+    /// Ends the logical line, begins it or adds to it, as the lexeme after these bytes of its line does.
     fn add(
         &mut self,
         alloc: Global,
@@ -103,13 +106,13 @@ impl Reader {
         }
     }
 
-    /// Ends the logical line, where no bracket is open.
+    /// Ends the logical line, if no bracket is open.
     fn end_line(&mut self) -> Result<(), NoMemory>
-        ensures ended { OnOk result (self.new.ended.items ≡ ended_behind_line_end self.old) }
-        ensures begun { OnOk result (self.new.begun ≡ begun_behind_line_end self.old) }
+        ensures ended { OnOk result (self.new.ended.items ≡ ended_after_line_end self.old) }
+        ensures begun { OnOk result (self.new.begun ≡ begun_after_line_end self.old) }
         ensures same { OnOk result (IsElsewhereSame self.old self.new) }
     {
-        if self.brackets.are_closed() {
+        if are_closed(&self.brackets) {
             if let Some(draft) = self.begun.take() {
                 self.ended.push(draft)?;
             }
@@ -117,7 +120,7 @@ impl Reader {
         Ok(())
     }
 
-    /// Adds a token at this place to the logical line that has begun, or begins one behind these bytes.
+    /// Adds a token to the logical line that has begun, or begins one after these bytes of the line.
     fn take_token(
         &mut self,
         alloc: Global,
@@ -129,7 +132,7 @@ impl Reader {
         requires indent { length indent.now < 2 ^ 32 }
         requires fits { at + length bytes.now < 2 ^ 32 }
         ensures ended { OnOk result (self.new.ended.items ≡ self.old.ended.items) }
-        ensures begun { OnOk result (self.new.begun ≡ Some (continued self.old.place.line indent.now self.old.begun
+        ensures begun { OnOk result (self.new.begun ≡ Some (continued self.old.line.number indent.now self.old.begun
             (record { kind = kind; text = bytes.now; start = at; end = at + length bytes.now }))) }
         ensures same { OnOk result (IsElsewhereSame self.old self.new) }
     {
@@ -139,7 +142,7 @@ impl Reader {
             start: at as u32,
             end: (at + bytes.len()) as u32,
         };
-        let draft = opened(alloc, self.begun.take(), self.place.line, indent);
+        let draft = opened(alloc, self.begun.take(), self.line.number, indent);
         self.begun = Some(draft.with(token)?);
         Ok(())
     }
@@ -160,8 +163,8 @@ impl Reader {
     }
 }
 
-fn is_name_behind_number(last: Sort, sort: Sort) -> bool
-    ensures { result ≡ spec.is_name_behind_number last sort }
+fn is_name_after_number(last: Sort, sort: Sort) -> bool
+    ensures { result ≡ spec.is_name_after_number last sort }
 {
     match (last, sort) {
         (Sort::Token(TokenKind::Int(_)), Sort::Token(TokenKind::Name)) => true,
@@ -169,7 +172,7 @@ fn is_name_behind_number(last: Sort, sort: Sort) -> bool
     }
 }
 
-/// The logical line that has begun, or one without tokens that begins on this line behind these bytes.
+/// The logical line that has begun, or one without tokens that begins on this line after these bytes.
 fn opened(alloc: Global, begun: Option<Draft>, line: u32, indent: &[u8]) -> Draft
     requires { length indent.now < 2 ^ 32 }
     ensures { result ≡ lines.opened line indent.now begun }

@@ -3,7 +3,7 @@ use crate::expression::Expr;
 use pm_io::{Boxed, List, Text};
 
 /// A parameter of a function.
-#[derive(Debug, Drop)]
+#[derive(Drop)]
 pub struct Par {
     pub name: Text,
     /// Its annotation.
@@ -11,18 +11,18 @@ pub struct Par {
     pub default: Option<Expr>,
 }
 
-/// What a logical line says. A header may have a simple statement on its own line, behind the colon.
+/// What a logical line says. A header may have a simple statement on its own line, after the colon.
 #[cycle(stmt)]
-#[derive(Debug, Drop)]
+#[derive(Drop)]
 pub enum Stmt {
     Import,
-    /// A string that stands alone.
+    /// A string alone.
     Doc,
     Pass,
     /// The class, and its base.
     Class(Text, Option<Text>),
     /// The name, whether `s` is its first parameter, the other parameters, the annotation of its result, and the
-    /// statement behind the colon.
+    /// statement after the colon.
     Def(Text, bool, List<Par>, Option<Expr>, Option<Boxed<Stmt>>),
     /// `@name`.
     Mark(Text),
@@ -33,7 +33,7 @@ pub enum Stmt {
     If(Expr, Option<Boxed<Stmt>>),
     Elif(Expr, Option<Boxed<Stmt>>),
     Else(Option<Boxed<Stmt>>),
-    /// The name, the arguments of `range`, and the statement behind the colon.
+    /// The name, the arguments of `range`, and the statement after the colon.
     For(Text, List<Expr>, Option<Boxed<Stmt>>),
     Assign(AssignOp, Expr, Expr),
     /// `a //= lambda: e`.
@@ -45,7 +45,7 @@ pub enum Stmt {
 }
 
 /// An assignment.
-#[derive(Clone, Copy, Debug, PartialEq, Eq)]
+#[derive(Clone, Copy, PartialEq, Eq)]
 pub enum AssignOp {
     /// `=`.
     Plain,
@@ -59,17 +59,17 @@ pub enum AssignOp {
 
 /// A logical line and the lines that belong to it.
 #[cycle(node)]
-#[derive(Debug, Drop)]
+#[derive(Drop)]
 pub struct Node {
     /// The number of its line, counted from 1.
     pub line: u32,
     pub stmt: Stmt,
-    /// The deeper lines behind a header.
+    /// The deeper lines after a header.
     pub body: List<Node>,
 }
 
 /// A design file.
-#[derive(Debug, Drop)]
+#[derive(Drop)]
 pub struct File {
     pub nodes: List<Node>,
 }

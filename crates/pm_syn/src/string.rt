@@ -1,19 +1,22 @@
 //! String literals.
-ghost use Rattle.std.specs.Prelude.{◌≡◌, ◌≤◌, length, IfSome};
+ghost use Rattle.std.specs.Prelude.{◌≡◌, ◌+◌, ◌≤◌, length, IfSome, IsTrue};
 ghost use Rattle.pm_syn.specs.Strings as spec;
 
 use pm_io::LF;
 
-/// How long the string literal at the head of the text is, where one stands there and is closed.
+/// How long the string literal is with which the text begins, if there is one and it is closed.
 pub(crate) fn string_length(text: &[u8]) -> Option<usize>
     ensures value { result ≡ spec.string_length text.now }
     ensures within { IfSome result (λ count. count ≤ length text.now) }
 {
-    if text.is_empty() || !is_prefix(text[0]) {
-        return quoted_length(text);
+    match text {
+        [] => None,
+        [prefix, quoted @ ..] if is_prefix(*prefix) => {
+            let count = quoted_length(quoted)?;
+            Some(count + 1)
+        }
+        _ => quoted_length(text),
     }
-    let quoted = quoted_length(&text[1..])?;
-    Some(quoted + 1)
 }
 
 fn is_prefix(byte: u8) -> bool
@@ -32,19 +35,37 @@ fn quoted_length(text: &[u8]) -> Option<usize>
     ensures value { result ≡ spec.quoted_length text.now }
     ensures within { IfSome result (λ count. count ≤ length text.now) }
 {
-    if text.len() < 2 || !is_quote(text[0]) {
-        return None;
+    match text {
+        [quote, rest @ ..] if is_quote(*quote) => length_from(*quote, rest),
+        _ => None,
     }
-    let quote = text[0];
-    if text.len() > 2 && text[1] == quote && text[2] == quote {
-        let closing = closing_quotes(quote, &text[3..])?;
-        return Some(closing + 3);
-    }
-    let closing = closing_quote(quote, &text[1..])?;
-    Some(closing + 1)
 }
 
-/// How many bytes stand up to the quote that closes a string on one line, with it.
+/// How long the string is, by its first quote and the text after it.
+fn length_from(quote: u8, text: &[u8]) -> Option<usize>
+    ensures value { result ≡ spec.length_from quote text.now }
+    ensures within { IfSome result (λ count. count ≤ length text.now + 1) }
+{
+    if are_two_more(quote, text) {
+        let count = closing_quotes(quote, &text[2..])?;
+        return Some(count + 3);
+    }
+    let count = closing_quote(quote, text)?;
+    Some(count + 1)
+}
+
+/// Whether two more quotes follow the first.
+fn are_two_more(quote: u8, text: &[u8]) -> bool
+    ensures value { result ≡ spec.are_two_more quote text.now }
+    ensures long { IsTrue result → 2 ≤ length text.now }
+{
+    match text {
+        [second, third, ..] => *second == quote && *third == quote,
+        _ => false,
+    }
+}
+
+/// How many bytes there are up to the quote that closes a string on one line, the quote included.
 fn closing_quote(quote: u8, text: &[u8]) -> Option<usize>
     ensures value { result ≡ spec.closing_quote quote text.now }
     ensures within { IfSome result (λ count. count ≤ length text.now) }
@@ -69,7 +90,7 @@ fn closing_quote(quote: u8, text: &[u8]) -> Option<usize>
     None
 }
 
-/// How many bytes stand up to the three quotes that close a string of any number of lines, with them.
+/// How many bytes there are up to the three quotes that close a string of any number of lines, these included.
 fn closing_quotes(quote: u8, text: &[u8]) -> Option<usize>
     ensures value { result ≡ spec.closing_quotes quote text.now }
     ensures within { IfSome result (λ count. count ≤ length text.now) }

@@ -12,22 +12,22 @@ digits-preserved c =
     let base = c.args.base in
     let text = c.args.text.now in
     let end = c.digits.literal.length in
-    let place = c.in-Some.place in
-    let next : IsNextDigit base text end place = c.in-Some.ensures in
+    let position = c.in-Some.position in
+    let next : IsNextDigit base text end position = c.in-Some.ensures in
     let read = c.with_digit.ensures (value_of base (take end text)) c.digits.invariant.read in
     record {
       within = omega (arith, next.within);
-      read = subst (λ (number : ℕ). IsNumberRead number c.with_digit.result) (sym (value_with_next base text end place (omega arith) next)) read;
-      spelled = inr (digits_with_next base text end place c.digits.invariant.spelled next);
+      read = subst (λ (number : ℕ). IsNumberRead number c.with_digit.result) (sym (value_with_next base text end position (omega arith) next)) read;
+      spelled = inr (digits_with_next base text end position c.digits.invariant.spelled next);
     }
 
--- no next digit at the head is against a digit there
+-- no next digit at the start is against a digit there
 no_digit_first : (base : ℕ) (text : List ℕ) (end : ℕ) → BeginsWithDigit base text → HasNoNextDigit base text end → end ≡ 0 → ⊥
 no_digit_first base [] end begins none at = begins
 no_digit_first base (byte ∷ text) end begins none at =
-    false≢true (sym none.no_digit ∙ ap (λ place. is_digit (get_or (byte ∷ text) place 0) base) at ∙ begins)
+    false≢true (sym none.no_digit ∙ ap (λ position. is_digit (get_or (byte ∷ text) position 0) base) at ∙ begins)
 
--- a digit stands at the head, so some digit was read
+-- a digit is at the start, so some digit was read
 some_digits : (base : ℕ) (text : List ℕ) (end : ℕ) → BeginsWithDigit base text → HasNoNextDigit base text end → (end ≡ 0) ⊎ AreDigits base (take end text)
     → (0 < end) × AreDigits base (take end text)
 some_digits base text end begins none (inl at) = absurd (no_digit_first base text end begins none at)
@@ -46,5 +46,5 @@ returns c =
       within = c.digits.invariant.within;
       read = c.digits.invariant.read;
       spelled = some.1;
-      longest = λ front rest same digits. longest_digits text end (omega arith) some.0 c.digits.invariant.within some.1 none digits rest same;
+      longest = λ prefix rest same digits. longest_digits text end (omega arith) some.0 c.digits.invariant.within some.1 none digits rest same;
     }

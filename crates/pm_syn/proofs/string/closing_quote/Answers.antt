@@ -28,9 +28,9 @@ loop-at-preserved c =
             | else-at-text-via-then-at-text+else-text-at-eq-LF w' ↦ λ inside. w'.if-text-at-eq-LF.false
             | else-at-text-via-else-at-text w' ↦ λ inside. absurd (omega (arith, w'.if-at-text.false))
           ] in
-          subst (λ place. quote_from quote (place + 1) text ≡ closing_quote quote text) (sym w.at-is) (
+          subst (λ position. quote_from quote (position + 1) text ≡ closing_quote quote text) (sym w.at-is) (
           quote_from-covered quote at text c.loop-at-test.true c.if-byte-quote.false w.if-byte-eq92.true covered ∙ c.loop-at.invariant)
       | else-byte-eq92 w ↦
-          subst (λ place. quote_from quote (place + 1) text ≡ closing_quote quote text) (sym w.at-is) (
+          subst (λ position. quote_from quote (position + 1) text ≡ closing_quote quote text) (sym w.at-is) (
           quote_from-other quote at text c.loop-at-test.true c.if-byte-quote.false c.if-byte-eq-LF.false w.if-byte-eq92.false ∙ c.loop-at.invariant)
     ]
