@@ -9,11 +9,11 @@ use Rattle.pm_syn.specs.declared.expression.Expr.{Expr}
 use Rattle.pm_syn.specs.declared.token.Token.{Token}
 use Rattle.pm_grammar.specs.Expressions.{Spells, SpellsArgument}
 use Rattle.pm_grammar.specs.Levels.{operator_at, tighter}
-use Rattle.pm_grammar.specs.Marks.{is_mark, is_name, is_word}
+use Rattle.pm_grammar.specs.Tokens.{is_symbol, is_name, is_word}
 use Rattle.pm_grammar.specs.declared.level.Level.{Level}
 use Rattle.pm_grammar.specs.declared.level.Level.TheVariants as level
 use Rattle.pm_grammar.proofs.ExpressionStarts.{opens, opens_name, starts, starts_name}
-use Rattle.pm_grammar.proofs.OneMark.{mark_no_name, no_name_of_word, no_operator, not_is_keyword, other_mark, word_no_mark}
+use Rattle.pm_grammar.proofs.OneSymbol.{mark_no_name, no_name_of_word, no_operator, not_is_keyword, other_mark, word_no_mark}
 use Rattle.pm_grammar.proofs.OperandStarts.{IsBegun, begun_expression, sign_starts}
 
 -- the first token of an argument
@@ -23,35 +23,35 @@ argument_begun _ _ (SpellsArgument.by_name ts name sign e named mark s) = (name,
 
 -- a token that isn't `=`
 abbrev IsNoEquals : Token → Type 0
-IsNoEquals t = IsTrue (is_mark (codes "=") t) → ⊥
+IsNoEquals t = IsTrue (is_symbol (codes "=") t) → ⊥
 
-no_equals_mark : (bytes : List ℕ) (t : Token) → bytes_eq bytes (codes "=") ≡ false → IsTrue (is_mark bytes t) → IsNoEquals t
+no_equals_mark : (bytes : List ℕ) (t : Token) → bytes_eq bytes (codes "=") ≡ false → IsTrue (is_symbol bytes t) → IsNoEquals t
 no_equals_mark bytes t other is equals =
-    let no : is_mark (codes "=") t ≡ false = other_mark bytes (codes "=") t other is in
+    let no : is_symbol (codes "=") t ≡ false = other_mark bytes (codes "=") t other is in
     cc
 
 no_equals_word : (bytes : List ℕ) (t : Token) → IsTrue (is_word bytes t) → IsNoEquals t
 no_equals_word bytes t is equals =
-    let no : is_mark (codes "=") t ≡ false = word_no_mark bytes (codes "=") t is in
+    let no : is_symbol (codes "=") t ≡ false = word_no_mark bytes (codes "=") t is in
     cc
 
 no_equals_operator : (l : Level) (t : Token) (op : BinaryOp) → operator_at l t ≡ Some op → IsNoEquals t
 no_equals_operator l t op is equals = let no = no_operator l t equals in cc
 
--- a name isn't a mark that begins an expression
-no_name_mark : (bytes : List ℕ) (t u : Token) (ts us : List Token) → IsTrue (is_mark bytes t) → ◌≡◌ {A = List Token} (t ∷ ts) (u ∷ us) → IsTrue (is_name u) → ⊥
+-- a name isn't a symbol that begins an expression
+no_name_mark : (bytes : List ℕ) (t u : Token) (ts us : List Token) → IsTrue (is_symbol bytes t) → ◌≡◌ {A = List Token} (t ∷ ts) (u ∷ us) → IsTrue (is_name u) → ⊥
 no_name_mark bytes t u ts us is same name =
     let no : is_name t ≡ false = mark_no_name bytes t is in
     let one : t ≡ u = cc in
     false≢true (sym no ∙ ap is_name one ∙ name)
 
--- what stands second behind such a front
+-- what comes second after such a prefix
 second : (ts ws us : List Token) (sign t u : Token) → IsBegun opens ts → ts ++ sign ∷ ws ≡ t ∷ u ∷ us → IsNoEquals sign
     → ((vs : List Token) → ts ≡ t ∷ u ∷ vs → IsNoEquals u) → IsNoEquals u
 second [] ws us sign t u begun same apart inner equals = let e = begun.2 in cc
 second (x ∷ []) ws us sign t u begun same apart inner equals =
     let one : sign ≡ u = cc in
-    apart (subst (λ (z : Token). IsTrue (is_mark (codes "=") z)) (sym one) equals)
+    apart (subst (λ (z : Token). IsTrue (is_symbol (codes "=") z)) (sym one) equals)
 second (x ∷ y ∷ ts) ws us sign t u begun same apart inner equals = inner ts (cc) equals
 
 -- in an expression that begins with a name, `=` isn't second

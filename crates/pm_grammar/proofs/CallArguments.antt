@@ -7,13 +7,13 @@ use Rattle.pm_syn.specs.declared.expression.Expr.{Expr}
 use Rattle.pm_syn.specs.declared.token.Token.{Token}
 use Rattle.pm_grammar.specs.Brackets.{IsNoParameter, IsOnlyArgument, IsParameter, SpellsMore, ends_argument}
 use Rattle.pm_grammar.specs.Expressions.{Spells, SpellsArgument, SpellsArgumentSequence, SpellsArguments}
-use Rattle.pm_grammar.specs.Fronts.{IsBehind, IsNotThere, begins_with}
-use Rattle.pm_grammar.specs.Marks.{is_mark, is_name}
+use Rattle.pm_grammar.specs.Prefixes.{IsAfter, IsNotFirst, begins_with}
+use Rattle.pm_grammar.specs.Tokens.{is_symbol, is_name}
 use Rattle.pm_grammar.specs.Reading.{Begins, IsOnly, IsOnlyBefore, IsRead}
 use Rattle.pm_grammar.specs.declared.level.Level.TheVariants as level
 use Rattle.pm_grammar.proofs.ArgumentNames.{argument_begun, no_equals}
 use Rattle.pm_grammar.proofs.ExpressionStarts.{opens, parenthesis_opens}
-use Rattle.pm_grammar.proofs.OneMark.{argument_ends, no_argument_end, parenthesis_no_comma}
+use Rattle.pm_grammar.proofs.OneSymbol.{argument_ends, no_argument_end, parenthesis_no_comma}
 use Rattle.pm_grammar.proofs.OperandStarts.{IsBegun, begun_expression}
 use Rattle.pm_grammar.proofs.Parts.{not_begun, front_closed}
 use Rattle.pm_grammar.proofs.Sequences.{SpellsFrom, arguments_are, more_done, more_first, more_on}
@@ -67,13 +67,13 @@ no_plain_parameter tokens tail left name behind e parameter ends (front, split, 
       go (t ∷ []) is s begun =
           let there = parameter.1 in
           let same : behind ≡ parameter.0 = cc in
-          false≢true (sym (no_argument_end (codes "=") behind refl refl ends) ∙ ap (is_mark (codes "=")) same ∙ parameter.3)
+          false≢true (sym (no_argument_end (codes "=") behind refl refl ends) ∙ ap (is_symbol (codes "=")) same ∙ parameter.3)
       go (t ∷ u ∷ ts) is s begun =
           let there = parameter.1 in
           let first : t ≡ name = cc in
           let second : parameter.0 ≡ u = cc in
           no_equals level.Conditional (t ∷ u ∷ ts) e s t u ts refl (subst (λ (z : Token). IsTrue (is_name z)) (sym first) parameter.2)
-          (subst (λ (z : Token). IsTrue (is_mark (codes "=") z)) second parameter.3)
+          (subst (λ (z : Token). IsTrue (is_symbol (codes "=") z)) second parameter.3)
 
 pub named_found : (tokens tail rest : List Token) (name : Token) (text : List ℕ) (e : Expr) → IsParameter tokens name tail → text ≡ name.text → Begins (Spells level.Conditional) tail e rest
     → Begins SpellsArgument tokens (record { name = Some text; value = e }) rest
@@ -114,10 +114,10 @@ only_named tokens tail rest name text e parameter text_is only a behind left end
 
 -- ---- arguments
 
--- arguments, each with a comma behind it
+-- arguments, each with a comma after it
 pub data SpellsLeading : List Token → List Arg → Type 0 where
   nothing : SpellsLeading [] []
-  leading : (ts : List Token) (comma : Token) (arguments : List Arg) → SpellsArgumentSequence ts arguments → IsTrue (is_mark (codes ",") comma) → SpellsLeading (ts ++ comma ∷ []) arguments
+  leading : (ts : List Token) (comma : Token) (arguments : List Arg) → SpellsArgumentSequence ts arguments → IsTrue (is_symbol (codes ",") comma) → SpellsLeading (ts ++ comma ∷ []) arguments
 
 leading_all : (ts : List Token) (arguments : List Arg) → SpellsLeading ts arguments → SpellsArguments ts arguments
 leading_all _ _ SpellsLeading.nothing = SpellsArguments.no_arguments
@@ -140,7 +140,7 @@ begins_one tokens rest after arguments a begins begins' = (
 )
 
 pub leading_found : (tokens rest after tail : List Token) (arguments : List Arg) (a : Arg) → Begins SpellsLeading tokens arguments rest → Begins SpellsArgument rest a after
-    → IsBehind (is_mark (codes ",")) after tail → Begins SpellsLeading tokens (arguments ++ a ∷ []) tail
+    → IsAfter (is_symbol (codes ",")) after tail → Begins SpellsLeading tokens (arguments ++ a ∷ []) tail
 leading_found tokens rest after tail arguments a begins begins' comma =
     let one = begins_one tokens rest after arguments a begins begins' in
     (one.0 ++ comma.0 ∷ [], front_closed tokens one.0 after tail comma.0 one.1 comma.1, SpellsLeading.leading one.0 comma.0 (arguments ++ a ∷ []) one.2 comma.2)
@@ -154,10 +154,10 @@ last_found tokens rest after arguments a begins begins' =
 pub arguments_found : (tokens rest : List Token) (arguments : List Arg) → Begins SpellsLeading tokens arguments rest → Begins SpellsArguments tokens arguments rest
 arguments_found tokens rest arguments begins = (begins.0, begins.1, leading_all begins.0 arguments begins.2)
 
--- the arguments up to the closing parenthesis go on from these
+-- the arguments up to the closing parenthesis continue from these
 abbrev pub GoesOnArguments : List Token → List Arg → List Token → Type 0
 GoesOnArguments tokens arguments rest =
-    (all : List Arg) (closing : Token) (left : List Token) → IsTrue (is_mark (codes ")") closing) → Begins SpellsArguments tokens all (closing ∷ left)
+    (all : List Arg) (closing : Token) (left : List Token) → IsTrue (is_symbol (codes ")") closing) → Begins SpellsArguments tokens all (closing ∷ left)
     → (us : List Token) × (more : List Arg) × (rest ≡ us ++ closing ∷ left) × (all ≡ arguments ++ more) × SpellsFrom SpellsArgument true us more
 
 pub goes_arguments : (tokens : List Token) → GoesOnArguments tokens [] tokens
@@ -172,12 +172,12 @@ record ArgumentReads (rest : List Token) (arguments all : List Arg) (closing : T
   pub begins : Begins SpellsArgument rest a (behind ++ closing ∷ left)
   pub more : SpellsMore SpellsArgument true behind others
 
-next_argument : (tokens rest : List Token) (arguments : List Arg) → begins_with (is_mark (codes ")")) rest ≡ false → GoesOnArguments tokens arguments rest
-    → (all : List Arg) (closing : Token) (left : List Token) → IsTrue (is_mark (codes ")") closing) → Begins SpellsArguments tokens all (closing ∷ left) → ArgumentReads rest arguments all closing left
+next_argument : (tokens rest : List Token) (arguments : List Arg) → begins_with (is_symbol (codes ")")) rest ≡ false → GoesOnArguments tokens arguments rest
+    → (all : List Arg) (closing : Token) (left : List Token) → IsTrue (is_symbol (codes ")") closing) → Begins SpellsArguments tokens all (closing ∷ left) → ArgumentReads rest arguments all closing left
 next_argument tokens rest arguments apart goes all closing left mark begins =
     let on = goes all closing left mark begins in
     elim on.4 [
-      | inl ended ↦ absurd (not_begun (is_mark (codes ")")) rest left closing apart (on.2 ∙ ap (λ (us : List Token). us ++ closing ∷ left) ended.0) mark)
+      | inl ended ↦ absurd (not_begun (is_symbol (codes ")")) rest left closing apart (on.2 ∙ ap (λ (us : List Token). us ++ closing ∷ left) ended.0) mark)
       | inr some ↦ record {
         behind = some.1;
         a = some.2;
@@ -190,17 +190,17 @@ next_argument tokens rest arguments apart goes all closing left mark begins =
 
 -- an argument ends before what follows it
 argument_read : (rest left : List Token) (arguments all : List Arg) (closing : Token) (read : Option (Arg × List Token)) (one : ArgumentReads rest arguments all closing left)
-    → IsTrue (is_mark (codes ")") closing) → IsOnlyArgument rest read → IsRead read one.a (one.behind ++ closing ∷ left)
+    → IsTrue (is_symbol (codes ")") closing) → IsOnlyArgument rest read → IsRead read one.a (one.behind ++ closing ∷ left)
 argument_read rest left arguments all closing read one mark only =
     let first = more_first SpellsArgument true one.behind left one.others closing one.more in
     let ends : IsTrue (ends_argument first.0) = elim first.3 [
-      | inl comma ↦ or_left (is_mark (codes ",") first.0) (is_mark (codes ")") first.0) comma
-      | inr same ↦ or_right (is_mark (codes ",") first.0) (is_mark (codes ")") first.0) (subst (λ (t : Token). IsTrue (is_mark (codes ")") t)) (sym same) mark)
+      | inl comma ↦ or_left (is_symbol (codes ",") first.0) (is_symbol (codes ")") first.0) comma
+      | inr same ↦ or_right (is_symbol (codes ",") first.0) (is_symbol (codes ")") first.0) (subst (λ (t : Token). IsTrue (is_symbol (codes ")") t)) (sym same) mark)
     ] in
     let moved = subst (λ (us : List Token). Begins SpellsArgument rest one.a us) first.2 one.begins in
     subst (λ (us : List Token). IsRead read one.a us) (sym first.2) (only one.a first.0 first.1 ends moved)
 
-pub no_argument : (tokens rest : List Token) (arguments : List Arg) → begins_with (is_mark (codes ")")) rest ≡ false → GoesOnArguments tokens arguments rest → IsOnlyArgument rest None
+pub no_argument : (tokens rest : List Token) (arguments : List Arg) → begins_with (is_symbol (codes ")")) rest ≡ false → GoesOnArguments tokens arguments rest → IsOnlyArgument rest None
     → IsOnlyBefore SpellsArguments (codes ")") tokens None
 no_argument tokens rest arguments apart goes only all closing left mark begins =
     let one = next_argument tokens rest arguments apart goes all closing left mark begins in
@@ -209,8 +209,8 @@ no_argument tokens rest arguments apart goes only all closing left mark begins =
 one_more : (arguments others all : List Arg) (a b : Arg) → all ≡ arguments ++ b ∷ others → b ≡ a → all ≡ (arguments ++ a ∷ []) ++ others
 one_more arguments others all a b made same = made ∙ ap (λ (one : Arg). arguments ++ one ∷ others) same ∙ sym (append_assoc arguments (a ∷ []) others)
 
-pub goes_argument : (tokens rest after tail : List Token) (arguments : List Arg) (a : Arg) → begins_with (is_mark (codes ")")) rest ≡ false → GoesOnArguments tokens arguments rest
-    → IsOnlyArgument rest (Some (a, after)) → IsBehind (is_mark (codes ",")) after tail → GoesOnArguments tokens (arguments ++ a ∷ []) tail
+pub goes_argument : (tokens rest after tail : List Token) (arguments : List Arg) (a : Arg) → begins_with (is_symbol (codes ")")) rest ≡ false → GoesOnArguments tokens arguments rest
+    → IsOnlyArgument rest (Some (a, after)) → IsAfter (is_symbol (codes ",")) after tail → GoesOnArguments tokens (arguments ++ a ∷ []) tail
 goes_argument tokens rest after tail arguments a apart goes only comma all closing left mark begins =
     let one = next_argument tokens rest arguments apart goes all closing left mark begins in
     let was = argument_read rest left arguments all closing (Some (a, after)) one mark only in
@@ -225,15 +225,15 @@ goes_argument tokens rest after tail arguments a apart goes only comma all closi
       )
     ]
 
-pub only_last : (tokens rest after : List Token) (arguments : List Arg) (a : Arg) → begins_with (is_mark (codes ")")) rest ≡ false → GoesOnArguments tokens arguments rest
-    → IsOnlyArgument rest (Some (a, after)) → IsNotThere (is_mark (codes ",")) after → IsOnlyBefore SpellsArguments (codes ")") tokens (Some (arguments ++ a ∷ [], after))
+pub only_last : (tokens rest after : List Token) (arguments : List Arg) (a : Arg) → begins_with (is_symbol (codes ")")) rest ≡ false → GoesOnArguments tokens arguments rest
+    → IsOnlyArgument rest (Some (a, after)) → IsNotFirst (is_symbol (codes ",")) after → IsOnlyBefore SpellsArguments (codes ")") tokens (Some (arguments ++ a ∷ [], after))
 only_last tokens rest after arguments a apart goes only none_there all closing left mark begins =
     let one = next_argument tokens rest arguments apart goes all closing left mark begins in
     let was = argument_read rest left arguments all closing (Some (a, after)) one mark only in
     let last = more_done SpellsArgument true one.behind left after one.others closing one.more (sym was.1) none_there in
     (one.made ∙ ap (λ (zs : List Arg). arguments ++ one.a ∷ zs) last.0 ∙ ap (λ (b : Arg). arguments ++ b ∷ []) was.0, sym last.1)
 
-no_closing_argument : (tokens rest : List Token) (a : Arg) → begins_with (is_mark (codes ")")) tokens ≡ true → Begins SpellsArgument tokens a rest → ⊥
+no_closing_argument : (tokens rest : List Token) (a : Arg) → begins_with (is_symbol (codes ")")) tokens ≡ true → Begins SpellsArgument tokens a rest → ⊥
 no_closing_argument [] rest a there begins = false≢true there
 no_closing_argument (t ∷ tokens) rest a there begins =
     let begun = argument_begun begins.0 a begins.2 in
@@ -241,7 +241,7 @@ no_closing_argument (t ∷ tokens) rest a there begins =
     let one : t ≡ begun.0 = cc in
     false≢true (sym (parenthesis_opens t there) ∙ ap opens one ∙ begun.3)
 
-pub only_arguments : (tokens rest : List Token) (arguments : List Arg) → begins_with (is_mark (codes ")")) rest ≡ true → GoesOnArguments tokens arguments rest
+pub only_arguments : (tokens rest : List Token) (arguments : List Arg) → begins_with (is_symbol (codes ")")) rest ≡ true → GoesOnArguments tokens arguments rest
     → IsOnlyBefore SpellsArguments (codes ")") tokens (Some (arguments, rest))
 only_arguments tokens rest arguments there goes all closing left mark begins =
     let on = goes all closing left mark begins in

@@ -1,16 +1,16 @@
--- What is read of a conditional expression: a value, and behind `if` a condition, and behind `else` the other value.
+-- What is read of a conditional expression: a value, and after `if` a condition, and after `else` the other value.
 use Rattle.std.proofs.Common.{◌≡◌, ◌⊎◌, ◌++◌, ◌∙◌, false, IsTrue, List, ◌∷◌, codes, Some, None, append_assoc, refl, sym, ap, subst, inl, inr, ⊎_elim, arith}
 use Rattle.std.proofs.lemmas.Bool.{both_ways, false≢true, or_left}
 use Rattle.pm_syn.specs.declared.expression.Expr.{Expr}
 use Rattle.pm_syn.specs.declared.expression.Expr.TheViews as expr
 use Rattle.pm_syn.specs.declared.token.Token.{Token}
 use Rattle.pm_grammar.specs.Expressions.{Spells, as_tight, conditional, grouped_left}
-use Rattle.pm_grammar.specs.Fronts.{IsBehind, IsNotThere}
-use Rattle.pm_grammar.specs.Marks.{is_word}
+use Rattle.pm_grammar.specs.Prefixes.{IsAfter, IsNotFirst}
+use Rattle.pm_grammar.specs.Tokens.{is_word}
 use Rattle.pm_grammar.specs.Reading.{Begins, Ends, IsOnly, continues}
 use Rattle.pm_grammar.specs.declared.level.Level.TheVariants as level
 use Rattle.pm_grammar.proofs.OperatorLevels.{ends_tighter}
-use Rattle.pm_grammar.proofs.OneMark.{ends_else, ends_if}
+use Rattle.pm_grammar.proofs.OneSymbol.{ends_else, ends_if}
 
 -- the parts of a conditional expression
 pub record IsConditional (ts : List Token) (e : Expr) : Type 0 where
@@ -53,7 +53,7 @@ conditional_is ts e (conditional us vs ws if_word else_word value condition othe
     })
 conditional_is ts e (grouped_left _ _ _ _ _ _ _ groups _ _ _) = absurd (false≢true groups)
 
--- a value stands first, and the rest of a conditional expression behind it
+-- a value comes first, and the rest of a conditional expression after it
 record GoesOnAtIf (all : List Token) (e : Expr) (rest : List Token) : Type 0 where
   value : Expr
   condition : Expr
@@ -93,23 +93,23 @@ first_value all e rest begins = ⊎_elim
     }))
     (conditional_is begins.0 e begins.2)
 
--- no value stands first
+-- no value comes first
 pub no_value : (all : List Token) → IsOnly level.Disjunction all None → IsOnly level.Conditional all None
 no_value all only = λ e r begins ends. ⊎_elim
     (λ alone. only e r alone (ends_tighter level.Conditional level.Disjunction r (omega arith) ends))
     (λ (parts : GoesOnAtIf all e r). only parts.value (parts.if_word ∷ parts.condition_on) parts.begins (ends_if parts.if_word parts.condition_on parts.is_if))
     (first_value all e r begins)
 
--- a value was read, and no `if` stands behind it
-pub only_value : (all rest : List Token) (value : Expr) → IsOnly level.Disjunction all (Some (value, rest)) → IsNotThere (is_word (codes "if")) rest → IsOnly level.Conditional all (Some (value, rest))
+-- a value was read, and no `if` follows it
+pub only_value : (all rest : List Token) (value : Expr) → IsOnly level.Disjunction all (Some (value, rest)) → IsNotFirst (is_word (codes "if")) rest → IsOnly level.Conditional all (Some (value, rest))
 only_value all rest value only none = λ e r begins ends. ⊎_elim
     (λ alone. only e r alone (ends_tighter level.Conditional level.Disjunction r (omega arith) ends))
     (λ (parts : GoesOnAtIf all e r).
     let read = only parts.value (parts.if_word ∷ parts.condition_on) parts.begins (ends_if parts.if_word parts.condition_on parts.is_if) in
-    absurd (both_ways (is_word (codes "if") parts.if_word) (subst (λ (xs : List Token). IsNotThere (is_word (codes "if")) xs) (sym read.1) none) parts.is_if))
+    absurd (both_ways (is_word (codes "if") parts.if_word) (subst (λ (xs : List Token). IsNotFirst (is_word (codes "if")) xs) (sym read.1) none) parts.is_if))
     (first_value all e r begins)
 
--- behind `if`, a condition and the rest of the expression
+-- after `if`, a condition and the rest of the expression
 record GoesOnBehindIf (value : Expr) (behind : List Token) (e : Expr) (rest : List Token) : Type 0 where
   condition : Expr
   other : Expr
@@ -120,9 +120,9 @@ record GoesOnBehindIf (value : Expr) (behind : List Token) (e : Expr) (rest : Li
   begins : Begins (Spells level.Disjunction) behind condition (else_word ∷ other_on)
   other_begins : Begins (Spells level.Conditional) other_on other rest
 
--- a value was read, and `if` stands behind it
+-- a value was read, and `if` follows it
 abbrev IsValueBefore : List Token → Expr → List Token → Type 0
-IsValueBefore all value behind = (rest : List Token) × IsOnly level.Disjunction all (Some (value, rest)) × IsBehind (is_word (codes "if")) rest behind
+IsValueBefore all value behind = (rest : List Token) × IsOnly level.Disjunction all (Some (value, rest)) × IsAfter (is_word (codes "if")) rest behind
 
 behind_if : (all behind : List Token) (value : Expr) → IsValueBefore all value behind → (e : Expr) (r : List Token) → Begins (Spells level.Conditional) all e r → Ends level.Conditional r → GoesOnBehindIf value behind e r
 behind_if all behind value was e r begins ends = ⊎_elim
@@ -146,22 +146,22 @@ behind_if all behind value was e r begins ends = ⊎_elim
     })
     (first_value all e r begins)
 
--- no condition stands behind `if`
+-- no condition comes after `if`
 pub no_condition : (all behind : List Token) (value : Expr) → IsValueBefore all value behind → IsOnly level.Disjunction behind None → IsOnly level.Conditional all None
 no_condition all behind value was only = λ e r begins ends.
     let parts = behind_if all behind value was e r begins ends in
     only parts.condition (parts.else_word ∷ parts.other_on) parts.begins (ends_else parts.else_word parts.other_on parts.is_else)
 
--- no `else` stands behind the condition
-pub no_else : (all behind rest : List Token) (value condition : Expr) → IsValueBefore all value behind → IsOnly level.Disjunction behind (Some (condition, rest)) → IsNotThere (is_word (codes "else")) rest → IsOnly level.Conditional all None
+-- no `else` follows the condition
+pub no_else : (all behind rest : List Token) (value condition : Expr) → IsValueBefore all value behind → IsOnly level.Disjunction behind (Some (condition, rest)) → IsNotFirst (is_word (codes "else")) rest → IsOnly level.Conditional all None
 no_else all behind rest value condition was only none = λ e r begins ends.
     let parts = behind_if all behind value was e r begins ends in
     let read = only parts.condition (parts.else_word ∷ parts.other_on) parts.begins (ends_else parts.else_word parts.other_on parts.is_else) in
-    both_ways (is_word (codes "else") parts.else_word) (subst (λ (xs : List Token). IsNotThere (is_word (codes "else")) xs) (sym read.1) none) parts.is_else
+    both_ways (is_word (codes "else") parts.else_word) (subst (λ (xs : List Token). IsNotFirst (is_word (codes "else")) xs) (sym read.1) none) parts.is_else
 
--- the condition was read, and `else` stands behind it
+-- the condition was read, and `else` follows it
 abbrev IsConditionBefore : List Token → Expr → List Token → Type 0
-IsConditionBefore behind condition last = (rest : List Token) × IsOnly level.Disjunction behind (Some (condition, rest)) × IsBehind (is_word (codes "else")) rest last
+IsConditionBefore behind condition last = (rest : List Token) × IsOnly level.Disjunction behind (Some (condition, rest)) × IsAfter (is_word (codes "else")) rest last
 
 behind_else : (all behind last : List Token) (value condition : Expr) → IsValueBefore all value behind → IsConditionBefore behind condition last → (e : Expr) (r : List Token) → Begins (Spells level.Conditional) all e r → Ends level.Conditional r → (other : Expr) × (e ≡ expr.Cond value condition other) × Begins (Spells level.Conditional) last other r
 behind_else all behind last value condition was also e r begins ends =
@@ -174,7 +174,7 @@ behind_else all behind last value condition was also e r begins ends =
       subst (λ (xs : List Token). Begins (Spells level.Conditional) xs parts.other r) same parts.other_begins,
     )
 
--- no other value stands behind `else`
+-- no other value comes after `else`
 pub no_other : (all behind last : List Token) (value condition : Expr) → IsValueBefore all value behind → IsConditionBefore behind condition last → IsOnly level.Conditional last None → IsOnly level.Conditional all None
 no_other all behind last value condition was also only = λ e r begins ends.
     let parts = behind_else all behind last value condition was also e r begins ends in
@@ -190,7 +190,7 @@ only_conditional all behind last rest value condition other was also only = λ e
 pub begins_value : (all rest : List Token) (value : Expr) → Begins (Spells level.Disjunction) all value rest → Begins (Spells level.Conditional) all value rest
 begins_value all rest value begins = (begins.0, begins.1, as_tight level.Conditional begins.0 value begins.2)
 
-pub begins_conditional : (all before behind after last rest : List Token) (value condition other : Expr) → Begins (Spells level.Disjunction) all value before → IsBehind (is_word (codes "if")) before behind → Begins (Spells level.Disjunction) behind condition after → IsBehind (is_word (codes "else")) after last → Begins (Spells level.Conditional) last other rest → Begins (Spells level.Conditional) all (expr.Cond value condition other) rest
+pub begins_conditional : (all before behind after last rest : List Token) (value condition other : Expr) → Begins (Spells level.Disjunction) all value before → IsAfter (is_word (codes "if")) before behind → Begins (Spells level.Disjunction) behind condition after → IsAfter (is_word (codes "else")) after last → Begins (Spells level.Conditional) last other rest → Begins (Spells level.Conditional) all (expr.Cond value condition other) rest
 begins_conditional all before behind after last rest value condition other first if_there second else_there third =
     let us = first.0 in
     let vs = second.0 in

@@ -6,10 +6,10 @@ use Rattle.pm_syn.specs.declared.token.Token.{Token}
 use Rattle.pm_syn.specs.declared.token.TokenKind.{TokenKind}
 use Rattle.pm_syn.specs.declared.token.TokenKind.TheVariants as kind
 use Rattle.pm_grammar.specs.Expressions.{Spells, as_tight, conditional, grouped_left, negation, comparison, signed, power, attribute, call, index, slice, named, number, true_word, false_word, group, items, each}
-use Rattle.pm_grammar.specs.Fronts.{begins_with}
+use Rattle.pm_grammar.specs.Prefixes.{begins_with}
 use Rattle.pm_grammar.specs.Levels.{sign_of}
 use Rattle.pm_syn.specs.Names.{is_keyword}
-use Rattle.pm_grammar.specs.Marks.{is_mark, is_name, is_word}
+use Rattle.pm_grammar.specs.Tokens.{is_symbol, is_name, is_word}
 use Rattle.pm_grammar.specs.declared.level.Level.{Level}
 use Rattle.pm_grammar.proofs.TokenTexts.{by_word, like, of_mark, of_word}
 
@@ -22,7 +22,7 @@ is_int kind.Str = false
 
 -- an atom may begin with the token
 abbrev pub starts : Token → Bool
-starts t = (is_int t.kind || is_name t) || ((is_word (codes "True") t || is_word (codes "False") t) || (is_mark (codes "(") t || is_mark (codes "[") t))
+starts t = (is_int t.kind || is_name t) || ((is_word (codes "True") t || is_word (codes "False") t) || (is_symbol (codes "(") t || is_symbol (codes "[") t))
 
 -- an expression may begin with the token
 abbrev pub opens : Token → Bool
@@ -40,10 +40,10 @@ starts_true t is = or_right _ _ (or_left _ _ (or_left _ _ is))
 pub starts_false : (t : Token) → IsTrue (is_word (codes "False") t) → IsTrue (starts t)
 starts_false t is = or_right _ _ (or_left _ _ (or_right _ _ is))
 
-pub starts_parenthesis : (t : Token) → IsTrue (is_mark (codes "(") t) → IsTrue (starts t)
+pub starts_parenthesis : (t : Token) → IsTrue (is_symbol (codes "(") t) → IsTrue (starts t)
 starts_parenthesis t is = or_right _ _ (or_right _ _ (or_left _ _ is))
 
-pub starts_bracket : (t : Token) → IsTrue (is_mark (codes "[") t) → IsTrue (starts t)
+pub starts_bracket : (t : Token) → IsTrue (is_symbol (codes "[") t) → IsTrue (starts t)
 starts_bracket t is = of_mark (codes "[") t starts true is refl
 
 opens_start : (t : Token) → IsTrue (starts t) → IsTrue (opens t)
@@ -82,10 +82,10 @@ opens_expression (each ts us opening for_word closing e name bounds is inner for
 pub no_expression-word : (bytes : List ℕ) (l : Level) (t : Token) (ts : List Token) (e : Expr) → opens (like kind.Name bytes t) ≡ false → IsTrue (is_word bytes t) → Spells l (t ∷ ts) e → ⊥
 no_expression-word bytes l t ts e other is s = false≢true (sym (by_word bytes t (λ t. opens t ≡ false) is other) ∙ opens_expression s)
 
-pub closing_opens : (t : Token) → IsTrue (is_mark (codes "]") t) → opens t ≡ false
+pub closing_opens : (t : Token) → IsTrue (is_symbol (codes "]") t) → opens t ≡ false
 closing_opens t is = of_mark (codes "]") t opens false is refl
 
-pub parenthesis_opens : (t : Token) → IsTrue (is_mark (codes ")") t) → opens t ≡ false
+pub parenthesis_opens : (t : Token) → IsTrue (is_symbol (codes ")") t) → opens t ≡ false
 parenthesis_opens t is = of_mark (codes ")") t opens false is refl
 
 pub none_opens : (t : Token) → IsTrue (is_word (codes "None") t) → opens t ≡ false

@@ -1,4 +1,4 @@
--- The first operand of an operation, and how the operation goes on behind it.
+-- The first operand of an operation, and how the operation continues after it.
 use Rattle.std.proofs.Common.{◌≡◌, ◌≤◌, ◌⊎◌, ◌++◌, ◌∙◌, IsTrue, List, [], ◌∷◌, codes, Some, append_assoc, append-nil, refl, sym, ap, subst, inl, inr, ⊎_elim, arith}
 use Rattle.std.proofs.lemmas.Bool.{cases_lt}
 use Rattle.pm_syn.specs.declared.expression.BinaryOp.{BinaryOp}
@@ -9,15 +9,15 @@ use Rattle.pm_syn.specs.declared.token.Token.{Token}
 use Rattle.pm_grammar.specs.Expressions.{Spells}
 use Rattle.pm_grammar.specs.Expressions as spells
 use Rattle.pm_grammar.specs.Levels.{operator_at, rank, tighter}
-use Rattle.pm_grammar.specs.Marks.{is_word}
-use Rattle.pm_grammar.specs.Operations.{Chain, goes_on}
+use Rattle.pm_grammar.specs.Tokens.{is_word}
+use Rattle.pm_grammar.specs.Operations.{Chain, continues_by}
 use Rattle.pm_grammar.specs.Operations.Chain.{stay}
 use Rattle.pm_grammar.specs.declared.level.Level.{Level}
 use Rattle.pm_grammar.specs.declared.level.Level.TheVariants as level
 use Rattle.pm_grammar.proofs.Chains.{chain_end, chain_looser, goes_from, goes_parts, goes_within}
 use Rattle.pm_grammar.proofs.LevelRanks.{rank-tighter, same_level}
 
--- an operand with its signs stands first
+-- an operand with its signs comes first
 pub record FromSigned (l : Level) (ts : List Token) (e : Expr) : Type 0 where
   pub us : List Token
   pub vs : List Token
@@ -26,7 +26,7 @@ pub record FromSigned (l : Level) (ts : List Token) (e : Expr) : Type 0 where
   pub spelled : Spells level.Unary us operand
   pub chain : Chain level.Unary l operand vs e
 
--- a negation stands first
+-- a negation comes first
 pub record FromNegation (l : Level) (ts : List Token) (e : Expr) : Type 0 where
   pub word : Token
   pub us : List Token
@@ -76,7 +76,7 @@ operand_looser k l ts e within (inr from) =
     })
 
 -- one more operand at the end
-operand_end : (m to at : Level) (ts us : List Token) (sign : Token) (op : BinaryOp) (left right : Expr) → rank m ≤ 11 → IsTrue (goes_on to m at) → FromOperand m ts left → operator_at at sign ≡ Some op → Spells (tighter at) us right → FromOperand to (ts ++ sign ∷ us) (expr.Binary op left right)
+operand_end : (m to at : Level) (ts us : List Token) (sign : Token) (op : BinaryOp) (left right : Expr) → rank m ≤ 11 → IsTrue (continues_by to m at) → FromOperand m ts left → operator_at at sign ≡ Some op → Spells (tighter at) us right → FromOperand to (ts ++ sign ∷ us) (expr.Binary op left right)
 operand_end m to at ts us sign op left right within goes (inl from) is spelled =
     inl (record {
       us = from.us;
@@ -113,7 +113,7 @@ negated ts word e is spelled =
       chain = stay level.Negation level.Negation (expr.Unary unary.Not e);
     })
 
--- an operation is an operand and what goes on behind it
+-- an operation is an operand and what continues after it
 pub from_operand : (l : Level) (ts : List Token) (e : Expr) → Spells l ts e → 1 ≤ rank l → rank l ≤ 11 → FromOperand l ts e
 from_operand l ts e (spells.as_tight _ _ _ spelled) loosest tightest = ⊎_elim
     (λ below.

@@ -11,15 +11,15 @@ use Rattle.pm_syn.specs.declared.statement.Stmt as leaf
 use Rattle.pm_syn.specs.declared.statement.Stmt.TheViews as stmt
 use Rattle.pm_syn.specs.declared.token.Token.{Token}
 use Rattle.pm_grammar.specs.Expressions.{SpellsRange}
-use Rattle.pm_grammar.specs.Fronts.{IsBehind, IsNotThere, begins_with}
+use Rattle.pm_grammar.specs.Prefixes.{IsAfter, IsNotFirst, begins_with}
 use Rattle.pm_grammar.specs.Headers.{IsCondition, IsGuard, OpensGuard, SpellsBase, SpellsBranch, SpellsClass, SpellsDecorator, SpellsFor, based, elif_branch, else_branch, for_range, guard, if_branch, is_lone, mark, opened, simple_branch, with_base, without_base}
 use Rattle.pm_syn.specs.Names.{is_keyword}
-use Rattle.pm_grammar.specs.Marks.{is_mark, is_name, is_word}
+use Rattle.pm_grammar.specs.Tokens.{is_symbol, is_name, is_word}
 use Rattle.pm_grammar.specs.Reading.{Begins, IsOnly, IsOnlyBefore, IsRead}
 use Rattle.pm_grammar.specs.Statements.{IsExpression, SpellsEnd, SpellsOptional, SpellsResult, SpellsSimple, alone, with_statement, absent, present, unsaid, nothing, something}
 use Rattle.pm_grammar.specs.declared.level.Level.TheVariants as level
 use Rattle.pm_grammar.proofs.ExpressionStarts.{begins_more, none_opens, opens, opens_expression}
-use Rattle.pm_grammar.proofs.OneMark.{ends_colon, ends_parenthesis, other_mark, other_word}
+use Rattle.pm_grammar.proofs.OneSymbol.{ends_colon, ends_parenthesis, other_mark, other_word}
 use Rattle.pm_grammar.proofs.StatementStarts.{no_simple_elif, no_simple_else, no_simple_if, no_simple_in, opens_simple, opens_statement}
 use Rattle.pm_grammar.proofs.TokenTexts.{by_word}
 
@@ -51,33 +51,33 @@ end_is : {colon : Token} {ts : List Token} {body : Option Stmt} → SpellsEnd (c
 end_is (alone colon is) = inl (refl, refl)
 end_is (with_statement colon ts s is inner) = inr (s, refl, inner)
 
-pub end_alone : (all behind : List Token) → IsBehind (is_mark (codes ":")) all behind → behind ≡ [] → SpellsEnd all None
+pub end_alone : (all behind : List Token) → IsAfter (is_symbol (codes ":")) all behind → behind ≡ [] → SpellsEnd all None
 end_alone all behind colon empty =
     let same : all ≡ colon.0 ∷ [] = colon.1 ∙ ap (λ (ts : List Token). colon.0 ∷ ts) empty in
     subst (λ (ts : List Token). SpellsEnd ts None) (sym same) (alone colon.0 colon.2)
 
-pub end_with : (all behind : List Token) (s : Stmt) → IsBehind (is_mark (codes ":")) all behind → SpellsSimple behind s → SpellsEnd all (Some s)
+pub end_with : (all behind : List Token) (s : Stmt) → IsAfter (is_symbol (codes ":")) all behind → SpellsSimple behind s → SpellsEnd all (Some s)
 end_with all behind s colon inner = subst (λ (ts : List Token). SpellsEnd ts (Some s)) (sym colon.1) (with_statement colon.0 behind s colon.2 inner)
 
-pub only_alone : (all behind : List Token) → IsBehind (is_mark (codes ":")) all behind → behind ≡ [] → (body : Option Stmt) → SpellsEnd all body → body ≡ None
+pub only_alone : (all behind : List Token) → IsAfter (is_symbol (codes ":")) all behind → behind ≡ [] → (body : Option Stmt) → SpellsEnd all body → body ≡ None
 only_alone all behind colon empty body is =
     elim (end_is (subst (λ (ts : List Token). SpellsEnd ts body) colon.1 is)) [
       | inl one ↦ one.1
       | inr more ↦ absurd (no_simple_in more.0 (subst (λ (ts : List Token). SpellsSimple ts more.0) empty more.2))
     ]
 
-pub only_with : (all behind : List Token) → IsBehind (is_mark (codes ":")) all behind → (behind ≡ [] → ⊥) → (body : Option Stmt) → SpellsEnd all body → (s : Stmt) × (body ≡ Some s) × SpellsSimple behind s
+pub only_with : (all behind : List Token) → IsAfter (is_symbol (codes ":")) all behind → (behind ≡ [] → ⊥) → (body : Option Stmt) → SpellsEnd all body → (s : Stmt) × (body ≡ Some s) × SpellsSimple behind s
 only_with all behind colon some body is =
     elim (end_is (subst (λ (ts : List Token). SpellsEnd ts body) colon.1 is)) [
       | inl one ↦ absurd (some one.0)
       | inr more ↦ more
     ]
 
-end_begins : {ts : List Token} {body : Option Stmt} → SpellsEnd ts body → (colon : Token) × (tail : List Token) × (ts ≡ colon ∷ tail) × IsTrue (is_mark (codes ":") colon)
+end_begins : {ts : List Token} {body : Option Stmt} → SpellsEnd ts body → (colon : Token) × (tail : List Token) × (ts ≡ colon ∷ tail) × IsTrue (is_symbol (codes ":") colon)
 end_begins (alone colon is) = (colon, [], refl, is)
 end_begins (with_statement colon ts s is inner) = (colon, ts, refl, is)
 
--- ---- a part and the end of a header behind it
+-- ---- a part and the end of a header after it
 
 pub expression_before : (all : List Token) (read : Option (Expr × List Token)) → IsOnly level.Conditional all read → IsOnlyBefore IsExpression (codes ":") all read
 expression_before all read only one closing rest is begins = only one (closing ∷ rest) begins (ends_colon closing is)
@@ -102,40 +102,40 @@ only_before_end {A} Spelled all rest a read end only some only_end one r b begin
 
 -- ---- an optional expression
 
-pub optional_found : (bytes : List ℕ) (all behind rest : List Token) (e : Expr) → IsBehind (is_mark bytes) all behind → Begins IsExpression behind e rest → Begins (SpellsOptional bytes) all (Some e) rest
+pub optional_found : (bytes : List ℕ) (all behind rest : List Token) (e : Expr) → IsAfter (is_symbol bytes) all behind → Begins IsExpression behind e rest → Begins (SpellsOptional bytes) all (Some e) rest
 optional_found bytes all behind rest e sign begins =
     (sign.0 ∷ begins.0, sign.1 ∙ ap (λ (ts : List Token). sign.0 ∷ ts) begins.1, present sign.0 begins.0 e sign.2 begins.2)
 
-optional_is : (bytes : List ℕ) (sign : Token) (behind rest : List Token) → IsTrue (is_mark bytes sign) → IsNotThere (is_mark bytes) rest
+optional_is : (bytes : List ℕ) (sign : Token) (behind rest : List Token) → IsTrue (is_symbol bytes sign) → IsNotFirst (is_symbol bytes) rest
     → {front : List Token} {one : Option Expr} → SpellsOptional bytes front one → sign ∷ behind ≡ front ++ rest → (e : Expr) × (one ≡ Some e) × Begins IsExpression behind e rest
-optional_is bytes sign behind rest is not_there absent same = absurd (both_ways (is_mark bytes sign) (subst (IsNotThere (is_mark bytes)) (sym same) not_there) is)
+optional_is bytes sign behind rest is not_there absent same = absurd (both_ways (is_symbol bytes sign) (subst (IsNotFirst (is_symbol bytes)) (sym same) not_there) is)
 optional_is bytes sign behind rest is not_there (present first ts e first_is inner) same =
     let tail : behind ≡ ts ++ rest = cc in
     (e, refl, (ts, tail, inner))
 
-pub optional_behind : (bytes : List ℕ) (all behind : List Token) → IsBehind (is_mark bytes) all behind → (one : Option Expr) (rest : List Token) → Begins (SpellsOptional bytes) all one rest → IsNotThere (is_mark bytes) rest
+pub optional_behind : (bytes : List ℕ) (all behind : List Token) → IsAfter (is_symbol bytes) all behind → (one : Option Expr) (rest : List Token) → Begins (SpellsOptional bytes) all one rest → IsNotFirst (is_symbol bytes) rest
     → (e : Expr) × (one ≡ Some e) × Begins IsExpression behind e rest
 optional_behind bytes all behind sign one rest begins not_there = optional_is bytes sign.0 behind rest sign.2 not_there begins.2 (sym sign.1 ∙ begins.1)
 
 -- ---- the annotation of a result
 
-pub nothing_found : (all behind rest : List Token) → IsBehind (is_mark (codes "->")) all behind → IsBehind (is_word (codes "None")) behind rest → Begins SpellsResult all None rest
+pub nothing_found : (all behind rest : List Token) → IsAfter (is_symbol (codes "->")) all behind → IsAfter (is_word (codes "None")) behind rest → Begins SpellsResult all None rest
 nothing_found all behind rest arrow word =
     (arrow.0 ∷ word.0 ∷ [], arrow.1 ∙ ap (λ (ts : List Token). arrow.0 ∷ ts) word.1, nothing arrow.0 word.0 arrow.2 word.2)
 
-pub result_found : (all behind rest : List Token) (e : Expr) → IsBehind (is_mark (codes "->")) all behind → Begins IsExpression behind e rest → Begins SpellsResult all (Some e) rest
+pub result_found : (all behind rest : List Token) (e : Expr) → IsAfter (is_symbol (codes "->")) all behind → Begins IsExpression behind e rest → Begins SpellsResult all (Some e) rest
 result_found all behind rest e arrow begins =
     (arrow.0 ∷ begins.0, arrow.1 ∙ ap (λ (ts : List Token). arrow.0 ∷ ts) begins.1, something arrow.0 begins.0 e arrow.2 begins.2)
 
--- what stands behind the arrow: `None`, or an expression
+-- what comes after the arrow: `None`, or an expression
 abbrev pub IsBehindArrow : List Token → Option Expr → List Token → Type 0
-IsBehindArrow behind one rest = ((one ≡ None) × IsBehind (is_word (codes "None")) behind rest) ⊎ ((e : Expr) × (one ≡ Some e) × Begins IsExpression behind e rest)
+IsBehindArrow behind one rest = ((one ≡ None) × IsAfter (is_word (codes "None")) behind rest) ⊎ ((e : Expr) × (one ≡ Some e) × Begins IsExpression behind e rest)
 
-result_is : (arrow closing : Token) (behind rest : List Token) → IsTrue (is_mark (codes "->") arrow) → IsTrue (is_mark (codes ":") closing)
+result_is : (arrow closing : Token) (behind rest : List Token) → IsTrue (is_symbol (codes "->") arrow) → IsTrue (is_symbol (codes ":") closing)
     → {front : List Token} {one : Option Expr} → SpellsResult front one → arrow ∷ behind ≡ front ++ (closing ∷ rest) → IsBehindArrow behind one (closing ∷ rest)
 result_is arrow closing behind rest is colon unsaid same =
     let first : arrow ≡ closing = cc in
-    absurd (both_ways (is_mark (codes ":") arrow) (other_mark (codes "->") (codes ":") arrow refl is) (subst (λ (t : Token). IsTrue (is_mark (codes ":") t)) (sym first) colon))
+    absurd (both_ways (is_symbol (codes ":") arrow) (other_mark (codes "->") (codes ":") arrow refl is) (subst (λ (t : Token). IsTrue (is_symbol (codes ":") t)) (sym first) colon))
 result_is arrow closing behind rest is colon (nothing first word first_is word_is) same =
     let tail : behind ≡ word ∷ closing ∷ rest = cc in
     inl (refl, (word, tail, word_is))
@@ -143,7 +143,7 @@ result_is arrow closing behind rest is colon (something first ts e first_is inne
     let tail : behind ≡ ts ++ (closing ∷ rest) = cc in
     inr (e, refl, (ts, tail, inner))
 
-pub result_behind : (all behind : List Token) → IsBehind (is_mark (codes "->")) all behind → (one : Option Expr) (closing : Token) (rest : List Token) → IsTrue (is_mark (codes ":") closing)
+pub result_behind : (all behind : List Token) → IsAfter (is_symbol (codes "->")) all behind → (one : Option Expr) (closing : Token) (rest : List Token) → IsTrue (is_symbol (codes ":") closing)
     → Begins SpellsResult all one (closing ∷ rest) → IsBehindArrow behind one (closing ∷ rest)
 result_behind all behind arrow one closing rest colon begins = result_is arrow.0 closing behind rest arrow.2 colon begins.2 (sym arrow.1 ∙ begins.1)
 
@@ -153,23 +153,23 @@ no_none behind rest e word tail front is begins =
     let begun = subst (λ (ts : List Token). IsTrue (begins_with opens ts)) (sym begins.1 ∙ front) (begins_more opens begins.0 rest (opens_expression begins.2)) in
     both_ways (opens word) (none_opens word is) begun
 
-pub none_behind : (behind rest r : List Token) (one : Option Expr) → IsBehind (is_word (codes "None")) behind rest → IsBehindArrow behind one r → (one ≡ None) × (r ≡ rest)
+pub none_behind : (behind rest r : List Token) (one : Option Expr) → IsAfter (is_word (codes "None")) behind rest → IsBehindArrow behind one r → (one ≡ None) × (r ≡ rest)
 none_behind behind rest r one word is =
     elim is [
       | inl none ↦ (let tail : r ≡ rest = cc (none.1.1, word.1) in (none.0, tail))
       | inr some ↦ absurd (no_none behind r some.0 word.0 rest word.1 word.2 some.2)
     ]
 
-pub some_behind : (behind r : List Token) (one : Option Expr) → IsNotThere (is_word (codes "None")) behind → IsBehindArrow behind one r → (e : Expr) × (one ≡ Some e) × Begins IsExpression behind e r
+pub some_behind : (behind r : List Token) (one : Option Expr) → IsNotFirst (is_word (codes "None")) behind → IsBehindArrow behind one r → (e : Expr) × (one ≡ Some e) × Begins IsExpression behind e r
 some_behind behind r one not_there is =
     elim is [
-      | inl none ↦ absurd (both_ways (is_word (codes "None") none.1.0) (subst (IsNotThere (is_word (codes "None"))) none.1.1 not_there) none.1.2)
+      | inl none ↦ absurd (both_ways (is_word (codes "None") none.1.0) (subst (IsNotFirst (is_word (codes "None"))) none.1.1 not_there) none.1.2)
       | inr some ↦ some
     ]
 
--- ---- a mark alone
+-- ---- a symbol alone
 
-pub lone_is : (bytes : List ℕ) (ts : List Token) → is_lone bytes ts ≡ true → (token : Token) × (ts ≡ token ∷ []) × IsTrue (is_mark bytes token)
+pub lone_is : (bytes : List ℕ) (ts : List Token) → is_lone bytes ts ≡ true → (token : Token) × (ts ≡ token ∷ []) × IsTrue (is_symbol bytes token)
 lone_is bytes [] is = absurd (false≢true is)
 lone_is bytes (token ∷ []) is = (token, refl, is)
 lone_is bytes (token ∷ next ∷ rest) is = absurd (false≢true is)
@@ -187,16 +187,16 @@ only_guard all rest tree read only some e found =
     let here = read_some read e tree (found.0 ∷ []) rest some (guard_read all read only e found) in
     (here.0, subst (λ (ts : List Token). is_lone (codes ")") ts ≡ true) here.1 found.1)
 
--- ---- what stands behind `@`
+-- ---- what comes after `@`
 
-pub guard_opens : (all first second third : List Token) → IsBehind (is_mark (codes "(")) all first → IsBehind (is_word (codes "lambda")) first second → IsBehind (is_word (codes "s")) second third
-    → (colon : Option (Bor (List Token))) → MatchOption colon (IsNotThere (is_mark (codes ":")) third) (λ (tail : Bor (List Token)). IsBehind (is_mark (codes ":")) third tail.now)
+pub guard_opens : (all first second third : List Token) → IsAfter (is_symbol (codes "(")) all first → IsAfter (is_word (codes "lambda")) first second → IsAfter (is_word (codes "s")) second third
+    → (colon : Option (Bor (List Token))) → MatchOption colon (IsNotFirst (is_symbol (codes ":")) third) (λ (tail : Bor (List Token)). IsAfter (is_symbol (codes ":")) third tail.now)
     → MatchOption colon ((behind : List Token) → OpensGuard all behind → ⊥) (λ (tail : Bor (List Token)). OpensGuard all tail.now)
 guard_opens all first second third opening lambda self None not_there = λ behind opens_it.
     let there = no_colon opens_it opening.1 lambda.1 self.1 in
-    both_ways (is_mark (codes ":") there.0) (subst (IsNotThere (is_mark (codes ":"))) there.1 not_there) there.2
+    both_ways (is_symbol (codes ":") there.0) (subst (IsNotFirst (is_symbol (codes ":"))) there.1 not_there) there.2
   where
-    no_colon : {ts behind first second third : List Token} {t u v : Token} → OpensGuard ts behind → ts ≡ t ∷ first → first ≡ u ∷ second → second ≡ v ∷ third → (colon : Token) × (third ≡ colon ∷ behind) × IsTrue (is_mark (codes ":") colon)
+    no_colon : {ts behind first second third : List Token} {t u v : Token} → OpensGuard ts behind → ts ≡ t ∷ first → first ≡ u ∷ second → second ≡ v ∷ third → (colon : Token) × (third ≡ colon ∷ behind) × IsTrue (is_symbol (codes ":") colon)
     no_colon (opened opening lambda self colon rest opening_is lambda_is self_is colon_is) a b c = (colon, cc, colon_is)
 guard_opens all first second third opening lambda self (Some tail) colon =
     let same : all ≡ opening.0 ∷ lambda.0 ∷ self.0 ∷ colon.0 ∷ tail.now = cc (opening.1, lambda.1, self.1, colon.1) in
@@ -207,7 +207,7 @@ non_blocking_name : (word : Token) → IsTrue (is_word (codes "non_blocking") wo
 unfolding is_keyword
 non_blocking_name word is = by_word (codes "non_blocking") word (λ t. IsTrue (is_name t)) is refl
 
-pub no_decorator : (ts : List Token) (s : Stmt) → IsNotThere is_name ts → SpellsDecorator ts s → ⊥
+pub no_decorator : (ts : List Token) (s : Stmt) → IsNotFirst is_name ts → SpellsDecorator ts s → ⊥
 no_decorator ts s not_there (mark name is) = both_ways (is_name name) not_there is
 no_decorator ts s not_there (guard word us vs e is opens_it inner) = both_ways (is_name word) not_there (non_blocking_name word is)
 
@@ -251,7 +251,7 @@ no_guard_read all rest behind word read front some opens_it only none s is =
 
 -- ---- a class
 
-pub base_found : (all behind rest after : List Token) (base : Token) → IsBehind (is_mark (codes "(")) all behind → (behind ≡ base ∷ rest) × IsTrue (is_name base) → IsBehind (is_mark (codes ")")) rest after → is_lone (codes ":") after ≡ true → SpellsBase all base
+pub base_found : (all behind rest after : List Token) (base : Token) → IsAfter (is_symbol (codes "(")) all behind → (behind ≡ base ∷ rest) × IsTrue (is_name base) → IsAfter (is_symbol (codes ")")) rest after → is_lone (codes ":") after ≡ true → SpellsBase all base
 base_found all behind rest after base opening named closing lone =
     let colon = lone_is (codes ":") after lone in
     let front : all ≡ opening.0 ∷ base ∷ closing.0 ∷ colon.0 ∷ [] = cc (opening.1, named.0, closing.1, colon.1) in
@@ -305,22 +305,22 @@ else_is (elif_branch word ts condition body is inner) here = absurd (both_ways _
 else_is (else_branch word ts body is inner) here = (body, refl, inner)
 else_is {word} {ts} (simple_branch us s inner) here = absurd (not_simple word ts s (no_simple_else word here) inner)
 
-if_only : (all behind : List Token) → IsBehind (is_word (codes "if")) all behind → (s : Stmt) → SpellsBranch all s → (condition : Expr) × (body : Option Stmt) × (s ≡ stmt.If condition body) × IsCondition behind condition body
+if_only : (all behind : List Token) → IsAfter (is_word (codes "if")) all behind → (s : Stmt) → SpellsBranch all s → (condition : Expr) × (body : Option Stmt) × (s ≡ stmt.If condition body) × IsCondition behind condition body
 if_only all behind word s is = if_is (subst (λ (ts : List Token). SpellsBranch ts s) word.1 is) word.2
 
-elif_only : (all behind : List Token) → IsBehind (is_word (codes "elif")) all behind → (s : Stmt) → SpellsBranch all s → (condition : Expr) × (body : Option Stmt) × (s ≡ stmt.Elif condition body) × IsCondition behind condition body
+elif_only : (all behind : List Token) → IsAfter (is_word (codes "elif")) all behind → (s : Stmt) → SpellsBranch all s → (condition : Expr) × (body : Option Stmt) × (s ≡ stmt.Elif condition body) × IsCondition behind condition body
 elif_only all behind word s is = elif_is (subst (λ (ts : List Token). SpellsBranch ts s) word.1 is) word.2
 
-else_only : (all behind : List Token) → IsBehind (is_word (codes "else")) all behind → (s : Stmt) → SpellsBranch all s → (body : Option Stmt) × (s ≡ stmt.Else body) × SpellsEnd behind body
+else_only : (all behind : List Token) → IsAfter (is_word (codes "else")) all behind → (s : Stmt) → SpellsBranch all s → (body : Option Stmt) × (s ≡ stmt.Else body) × SpellsEnd behind body
 else_only all behind word s is = else_is (subst (λ (ts : List Token). SpellsBranch ts s) word.1 is) word.2
 
-pub if_found : (all behind : List Token) (condition : Expr) (body : Option Stmt) → IsBehind (is_word (codes "if")) all behind → IsCondition behind condition body → SpellsBranch all (stmt.If condition body)
+pub if_found : (all behind : List Token) (condition : Expr) (body : Option Stmt) → IsAfter (is_word (codes "if")) all behind → IsCondition behind condition body → SpellsBranch all (stmt.If condition body)
 if_found all behind condition body word inner = subst (λ (ts : List Token). SpellsBranch ts (stmt.If condition body)) (sym word.1) (if_branch word.0 behind condition body word.2 inner)
 
-pub elif_found : (all behind : List Token) (condition : Expr) (body : Option Stmt) → IsBehind (is_word (codes "elif")) all behind → IsCondition behind condition body → SpellsBranch all (stmt.Elif condition body)
+pub elif_found : (all behind : List Token) (condition : Expr) (body : Option Stmt) → IsAfter (is_word (codes "elif")) all behind → IsCondition behind condition body → SpellsBranch all (stmt.Elif condition body)
 elif_found all behind condition body word inner = subst (λ (ts : List Token). SpellsBranch ts (stmt.Elif condition body)) (sym word.1) (elif_branch word.0 behind condition body word.2 inner)
 
-pub else_found : (all behind : List Token) (body : Option Stmt) → IsBehind (is_word (codes "else")) all behind → SpellsEnd behind body → SpellsBranch all (stmt.Else body)
+pub else_found : (all behind : List Token) (body : Option Stmt) → IsAfter (is_word (codes "else")) all behind → SpellsEnd behind body → SpellsBranch all (stmt.Else body)
 else_found all behind body word inner = subst (λ (ts : List Token). SpellsBranch ts (stmt.Else body)) (sym word.1) (else_branch word.0 behind body word.2 inner)
 
 -- each condition with the end of its header was read
@@ -335,38 +335,38 @@ same_parts make a x b y read s some only made =
 no_read : {A : Type 0} (P : Type 0) (read : Option A) (one : A) → read ≡ None → read ≡ Some one → P
 no_read P read one none some = absurd (none-some one (sym none ∙ some))
 
-pub no_if : (all behind : List Token) (read : Option (Expr × Option Stmt)) → IsBehind (is_word (codes "if")) all behind → IsOnlyCondition behind read → read ≡ None → (s : Stmt) → SpellsBranch all s → None ≡ Some s
+pub no_if : (all behind : List Token) (read : Option (Expr × Option Stmt)) → IsAfter (is_word (codes "if")) all behind → IsOnlyCondition behind read → read ≡ None → (s : Stmt) → SpellsBranch all s → None ≡ Some s
 no_if all behind read word only none s is =
     let parts = if_only all behind word s is in
     no_read _ read _ none (only parts.0 parts.1 parts.3)
 
-pub no_elif : (all behind : List Token) (read : Option (Expr × Option Stmt)) → IsBehind (is_word (codes "elif")) all behind → IsOnlyCondition behind read → read ≡ None → (s : Stmt) → SpellsBranch all s → None ≡ Some s
+pub no_elif : (all behind : List Token) (read : Option (Expr × Option Stmt)) → IsAfter (is_word (codes "elif")) all behind → IsOnlyCondition behind read → read ≡ None → (s : Stmt) → SpellsBranch all s → None ≡ Some s
 no_elif all behind read word only none s is =
     let parts = elif_only all behind word s is in
     no_read _ read _ none (only parts.0 parts.1 parts.3)
 
-pub no_else : (all behind : List Token) (read : Option (Option Stmt)) → IsBehind (is_word (codes "else")) all behind → ((body : Option Stmt) → SpellsEnd behind body → read ≡ Some body) → read ≡ None → (s : Stmt) → SpellsBranch all s → None ≡ Some s
+pub no_else : (all behind : List Token) (read : Option (Option Stmt)) → IsAfter (is_word (codes "else")) all behind → ((body : Option Stmt) → SpellsEnd behind body → read ≡ Some body) → read ≡ None → (s : Stmt) → SpellsBranch all s → None ≡ Some s
 no_else all behind read word only none s is =
     let parts = else_only all behind word s is in
     no_read _ read _ none (only parts.0 parts.2)
 
-pub if_read : (all behind : List Token) (read : Option (Expr × Option Stmt)) (condition : Expr) (body : Option Stmt) → IsBehind (is_word (codes "if")) all behind → IsOnlyCondition behind read → read ≡ Some (condition, body) → (s : Stmt) → SpellsBranch all s → Some (stmt.If condition body) ≡ Some s
+pub if_read : (all behind : List Token) (read : Option (Expr × Option Stmt)) (condition : Expr) (body : Option Stmt) → IsAfter (is_word (codes "if")) all behind → IsOnlyCondition behind read → read ≡ Some (condition, body) → (s : Stmt) → SpellsBranch all s → Some (stmt.If condition body) ≡ Some s
 if_read all behind read condition body word only some s is =
     let parts = if_only all behind word s is in
     same_parts stmt.If condition parts.0 body parts.1 read s some (only parts.0 parts.1 parts.3) parts.2
 
-pub elif_read : (all behind : List Token) (read : Option (Expr × Option Stmt)) (condition : Expr) (body : Option Stmt) → IsBehind (is_word (codes "elif")) all behind → IsOnlyCondition behind read → read ≡ Some (condition, body) → (s : Stmt) → SpellsBranch all s → Some (stmt.Elif condition body) ≡ Some s
+pub elif_read : (all behind : List Token) (read : Option (Expr × Option Stmt)) (condition : Expr) (body : Option Stmt) → IsAfter (is_word (codes "elif")) all behind → IsOnlyCondition behind read → read ≡ Some (condition, body) → (s : Stmt) → SpellsBranch all s → Some (stmt.Elif condition body) ≡ Some s
 elif_read all behind read condition body word only some s is =
     let parts = elif_only all behind word s is in
     same_parts stmt.Elif condition parts.0 body parts.1 read s some (only parts.0 parts.1 parts.3) parts.2
 
-pub else_read : (all behind : List Token) (read : Option (Option Stmt)) (body : Option Stmt) → IsBehind (is_word (codes "else")) all behind → ((body : Option Stmt) → SpellsEnd behind body → read ≡ Some body) → read ≡ Some body → (s : Stmt) → SpellsBranch all s → Some (stmt.Else body) ≡ Some s
+pub else_read : (all behind : List Token) (read : Option (Option Stmt)) (body : Option Stmt) → IsAfter (is_word (codes "else")) all behind → ((body : Option Stmt) → SpellsEnd behind body → read ≡ Some body) → read ≡ Some body → (s : Stmt) → SpellsBranch all s → Some (stmt.Else body) ≡ Some s
 else_read all behind read body word only some s is =
     let parts = else_only all behind word s is in
     let same : body ≡ parts.0 = same_Some body parts.0 (sym some ∙ only parts.0 parts.2) in
     ap (λ (b : Option Stmt). Some (stmt.Else b)) same ∙ ap Some (sym parts.1)
 
--- ---- what stands behind `for`
+-- ---- what comes after `for`
 
 for_is : {ts : List Token} {s : Stmt} → SpellsFor ts s → (rest : List Token) × (name : List ℕ) × (bounds : List Expr) × (body : Option Stmt) × (s ≡ stmt.For name bounds body) × Begins SpellsRange ts (name, bounds) rest × SpellsEnd rest body
 for_is (for_range ts rest name bounds body begins ends) = (rest, name, bounds, body, refl, begins, ends)

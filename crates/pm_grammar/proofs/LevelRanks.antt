@@ -96,7 +96,7 @@ tighter_within level.Power = omega arith
 tighter_within level.Postfix = omega arith
 tighter_within level.Atom = omega arith
 
--- operators that group to the left stand at levels looser than that of signs
+-- operators that group to the left have looser levels than signs
 pub groups_below : (l : Level) → groups_left l ≡ true → rank l < 11
 groups_below level.Conditional groups = absurd (false≢true groups)
 groups_below level.Disjunction groups = omega arith

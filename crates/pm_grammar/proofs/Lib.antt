@@ -3,6 +3,10 @@ pub mod Atoms
 pub mod CallArguments
 pub mod Chains
 pub mod Conditionals
+pub mod DecidedExpressions
+pub mod DecidedLines
+pub mod DecidedSimpleStatements
+pub mod Decisions
 pub mod ExpressionStarts
 pub mod FirstOperands
 pub mod Headers
@@ -12,7 +16,7 @@ pub mod Lines
 pub mod Lists
 pub mod OneExpression
 pub mod OneLevel
-pub mod OneMark
+pub mod OneSymbol
 pub mod OneReading
 pub mod OneSimpleStatement
 pub mod OneStatement

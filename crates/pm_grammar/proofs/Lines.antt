@@ -9,15 +9,15 @@ use Rattle.pm_syn.specs.declared.statement.Stmt as leaf
 use Rattle.pm_syn.specs.declared.statement.Stmt.TheViews as stmt
 use Rattle.pm_syn.specs.declared.token.Token.{Token}
 use Rattle.pm_grammar.specs.Headers.{IsGuard, OpensGuard, SpellsBase, SpellsBranch, SpellsClass, SpellsDecorator, SpellsDefinition, SpellsDequeImport, SpellsFor, SpellsFunctionEnd, SpellsImport, all_names, based, definition, deque, deque_import, elif_branch, else_branch, for_range, function_end, guard, if_branch, mark, opened, simple_branch, some_names, with_base, without_base}
-use Rattle.pm_grammar.specs.Marks.{is_mark, is_name, is_word}
+use Rattle.pm_grammar.specs.Tokens.{is_symbol, is_name, is_word}
 use Rattle.pm_grammar.specs.Statements.{SpellsLine, SpellsSignature, class_alone, class_of, defined, elif_line, else_line, for_line, guarded, if_line, import_all, import_deque, import_names, marked, simple}
-use Rattle.pm_grammar.proofs.OneMark.{mark_no_word, other_word, word_no_mark}
+use Rattle.pm_grammar.proofs.OneSymbol.{mark_no_word, other_word, word_no_mark}
 use Rattle.pm_grammar.proofs.StatementStarts.{no_simple_at, no_simple_class, no_simple_def, no_simple_for, no_simple_from, no_simple_in, opens_simple}
 use Rattle.pm_grammar.proofs.Headers.{not_simple}
 
 -- a logical line by its first token
 data IsLine : List Token → Stmt → Type 0 where
-  at_line : (t : Token) (ts : List Token) (s : Stmt) → IsTrue (is_mark (codes "@") t) → SpellsDecorator ts s → IsLine (t ∷ ts) s
+  at_line : (t : Token) (ts : List Token) (s : Stmt) → IsTrue (is_symbol (codes "@") t) → SpellsDecorator ts s → IsLine (t ∷ ts) s
   from_line : (t : Token) (ts : List Token) → IsTrue (is_word (codes "from") t) → SpellsImport ts → IsLine (t ∷ ts) leaf.Import
   class_line : (t : Token) (ts : List Token) (s : Stmt) → IsTrue (is_word (codes "class") t) → SpellsClass ts s → IsLine (t ∷ ts) s
   def_line : (t : Token) (ts : List Token) (s : Stmt) → IsTrue (is_word (codes "def") t) → SpellsDefinition ts s → IsLine (t ∷ ts) s
@@ -49,7 +49,7 @@ no_branch t no_if no_elif no_else never (elif_branch word ts condition body is i
 no_branch t no_if no_elif no_else never (else_branch word ts body is ends) = both_ways _ no_else is
 no_branch t no_if no_elif no_else never {ts} {s} (simple_branch us one inner) = not_simple t ts s never inner
 
-at_is : {t : Token} {ts : List Token} {s : Stmt} → IsLine (t ∷ ts) s → IsTrue (is_mark (codes "@") t) → SpellsDecorator ts s
+at_is : {t : Token} {ts : List Token} {s : Stmt} → IsLine (t ∷ ts) s → IsTrue (is_symbol (codes "@") t) → SpellsDecorator ts s
 at_is (at_line t ts s also inner) is = inner
 at_is (from_line t ts also inner) is = absurd (both_ways _ (mark_no_word (codes "@") (codes "from") t is) also)
 at_is (class_line t ts s also inner) is = absurd (both_ways _ (mark_no_word (codes "@") (codes "class") t is) also)
@@ -89,7 +89,7 @@ for_is (def_line t ts s also inner) is = absurd (both_ways _ (other_word (codes 
 for_is (range_line t ts s also inner) is = inner
 for_is {t} {ts} {s} (branch_line us one inner) is = absurd (no_branch t (other_word (codes "for") (codes "if") t refl is) (other_word (codes "for") (codes "elif") t refl is) (other_word (codes "for") (codes "else") t refl is) (no_simple_for t is) inner)
 
-branch_is : {t : Token} {ts : List Token} {s : Stmt} → IsLine (t ∷ ts) s → is_mark (codes "@") t ≡ false → is_word (codes "from") t ≡ false → is_word (codes "class") t ≡ false → is_word (codes "def") t ≡ false → is_word (codes "for") t ≡ false → SpellsBranch (t ∷ ts) s
+branch_is : {t : Token} {ts : List Token} {s : Stmt} → IsLine (t ∷ ts) s → is_symbol (codes "@") t ≡ false → is_word (codes "from") t ≡ false → is_word (codes "class") t ≡ false → is_word (codes "def") t ≡ false → is_word (codes "for") t ≡ false → SpellsBranch (t ∷ ts) s
 branch_is (at_line t ts s also inner) no_at no_from no_class no_def no_for = absurd (both_ways _ no_at also)
 branch_is (from_line t ts also inner) no_at no_from no_class no_def no_for = absurd (both_ways _ no_from also)
 branch_is (class_line t ts s also inner) no_at no_from no_class no_def no_for = absurd (both_ways _ no_class also)
@@ -97,7 +97,7 @@ branch_is (def_line t ts s also inner) no_at no_from no_class no_def no_for = ab
 branch_is (range_line t ts s also inner) no_at no_from no_class no_def no_for = absurd (both_ways _ no_for also)
 branch_is (branch_line ts s inner) no_at no_from no_class no_def no_for = inner
 
-pub at_only : (all ts : List Token) (t : Token) (s : Stmt) → all ≡ t ∷ ts → IsTrue (is_mark (codes "@") t) → SpellsLine all s → SpellsDecorator ts s
+pub at_only : (all ts : List Token) (t : Token) (s : Stmt) → all ≡ t ∷ ts → IsTrue (is_symbol (codes "@") t) → SpellsLine all s → SpellsDecorator ts s
 at_only all ts t s front is line = at_is (subst (λ (us : List Token). IsLine us s) front (line_is line)) is
 
 from_only : (all ts : List Token) (t : Token) (s : Stmt) → all ≡ t ∷ ts → IsTrue (is_word (codes "from") t) → SpellsLine all s → SpellsImport ts × (s ≡ leaf.Import)
@@ -112,7 +112,7 @@ def_only all ts t s front is line = def_is (subst (λ (us : List Token). IsLine 
 pub for_only : (all ts : List Token) (t : Token) (s : Stmt) → all ≡ t ∷ ts → IsTrue (is_word (codes "for") t) → SpellsLine all s → SpellsFor ts s
 for_only all ts t s front is line = for_is (subst (λ (us : List Token). IsLine us s) front (line_is line)) is
 
-pub branch_only : (all ts : List Token) (t : Token) (s : Stmt) → all ≡ t ∷ ts → is_mark (codes "@") t ≡ false → is_word (codes "from") t ≡ false → is_word (codes "class") t ≡ false → is_word (codes "def") t ≡ false → is_word (codes "for") t ≡ false → SpellsLine all s → SpellsBranch all s
+pub branch_only : (all ts : List Token) (t : Token) (s : Stmt) → all ≡ t ∷ ts → is_symbol (codes "@") t ≡ false → is_word (codes "from") t ≡ false → is_word (codes "class") t ≡ false → is_word (codes "def") t ≡ false → is_word (codes "for") t ≡ false → SpellsLine all s → SpellsBranch all s
 branch_only all ts t s front no_at no_from no_class no_def no_for line =
     subst (λ (us : List Token). SpellsBranch us s) (sym front) (branch_is (subst (λ (us : List Token). IsLine us s) front (line_is line)) no_at no_from no_class no_def no_for)
 
@@ -143,17 +143,17 @@ class_found : {ts : List Token} {s : Stmt} → SpellsClass ts s → (t : Token) 
 class_found (without_base name colon name_is colon_is) t is = class_alone t name colon is name_is colon_is
 class_found (with_base name base ts name_is inner) t is = base_line inner t name is name_is
 
-guard_line : {ts us : List Token} {e : Expr} → OpensGuard ts us → IsGuard us e → (t word : Token) → IsTrue (is_mark (codes "@") t) → IsTrue (is_word (codes "non_blocking") word) → SpellsLine (t ∷ word ∷ ts) (leaf.NonBlocking e)
+guard_line : {ts us : List Token} {e : Expr} → OpensGuard ts us → IsGuard us e → (t word : Token) → IsTrue (is_symbol (codes "@") t) → IsTrue (is_word (codes "non_blocking") word) → SpellsLine (t ∷ word ∷ ts) (leaf.NonBlocking e)
 guard_line {ts} {us} {e} (opened opening lambda self colon rest opening_is lambda_is self_is colon_is) inner t word is word_is =
     let line = guarded t word opening lambda self colon inner.0 inner.2.0 e is word_is opening_is lambda_is self_is colon_is inner.2.2 inner.1 in
     subst (λ (vs : List Token). SpellsLine (t ∷ word ∷ opening ∷ lambda ∷ self ∷ colon ∷ vs) (leaf.NonBlocking e)) (sym inner.2.1) line
 
-at_found : {ts : List Token} {s : Stmt} → SpellsDecorator ts s → (t : Token) → IsTrue (is_mark (codes "@") t) → SpellsLine (t ∷ ts) s
+at_found : {ts : List Token} {s : Stmt} → SpellsDecorator ts s → (t : Token) → IsTrue (is_symbol (codes "@") t) → SpellsLine (t ∷ ts) s
 at_found (mark name name_is) t is = marked t name is name_is
 at_found (guard word ts us e word_is opens_it inner) t is = guard_line opens_it inner t word is word_is
 
 ending_line : {rest : List Token} {result : Option Expr} {body : Option Stmt} → SpellsFunctionEnd rest result body → (t name opening : Token) (ts us : List Token) (has_self : Bool) (ps : List Par) → IsTrue (is_word (codes "def") t) → IsTrue (is_name name)
-    → IsTrue (is_mark (codes "(") opening) → us ≡ ts ++ rest → SpellsSignature ts has_self ps → SpellsLine (t ∷ name ∷ opening ∷ us) (stmt.Def name.text has_self ps result body)
+    → IsTrue (is_symbol (codes "(") opening) → us ≡ ts ++ rest → SpellsSignature ts has_self ps → SpellsLine (t ∷ name ∷ opening ∷ us) (stmt.Def name.text has_self ps result body)
 ending_line (function_end closing ts rest result body closing_is note ends) t name opening front us has_self ps is name_is opening_is same signature =
     let line = defined t name opening closing front note.0 rest has_self ps result body is name_is opening_is signature closing_is note.2 ends in
     let whole : us ≡ front ++ (closing ∷ (note.0 ++ rest)) = same ∙ ap (λ (vs : List Token). front ++ (closing ∷ vs)) note.1 in
@@ -174,7 +174,7 @@ branch_found (elif_branch word ts condition body is inner) =
 branch_found (else_branch word ts body is ends) = else_line word ts body is ends
 branch_found (simple_branch ts s inner) = simple ts s inner
 
-pub at_line_found : (all ts : List Token) (t : Token) (s : Stmt) → all ≡ t ∷ ts → IsTrue (is_mark (codes "@") t) → SpellsDecorator ts s → SpellsLine all s
+pub at_line_found : (all ts : List Token) (t : Token) (s : Stmt) → all ≡ t ∷ ts → IsTrue (is_symbol (codes "@") t) → SpellsDecorator ts s → SpellsLine all s
 at_line_found all ts t s front is inner = subst (λ (us : List Token). SpellsLine us s) (sym front) (at_found inner t is)
 
 pub from_line_found : (all ts : List Token) (t : Token) → all ≡ t ∷ ts → IsTrue (is_word (codes "from") t) → SpellsImport ts → SpellsLine all leaf.Import

@@ -9,17 +9,17 @@ use Rattle.pm_syn.specs.declared.token.Token.{Token}
 use Rattle.pm_grammar.specs.Brackets.{IsNoParameter, IsOnlyArgument, SpellsList, ends_argument}
 use Rattle.pm_grammar.specs.Expressions.{Spells, SpellsArgument, SpellsArgumentSequence, SpellsArguments, SpellsItems, SpellsRange, SpellsSequence}
 use Rattle.pm_grammar.specs.Expressions as spells
-use Rattle.pm_grammar.specs.Fronts.{IsNotThere, begins_with}
+use Rattle.pm_grammar.specs.Prefixes.{IsNotFirst, begins_with}
 use Rattle.pm_grammar.specs.Laws.{TokensSpellOneExpression}
 use Rattle.pm_grammar.specs.Levels.{tighter}
-use Rattle.pm_grammar.specs.Marks.{is_mark, is_name, is_op, is_word}
+use Rattle.pm_grammar.specs.Tokens.{is_symbol, is_name, is_op, is_word}
 use Rattle.pm_grammar.specs.Reading.{Ends, IsOnlyBeginning, IsOnlyBefore, IsOnly}
 use Rattle.pm_grammar.specs.declared.level.Level.{Level}
 use Rattle.pm_grammar.specs.declared.level.Level.TheVariants as level
 use Rattle.pm_grammar.proofs.Atoms.{only_false, only_int, only_name, only_true}
 use Rattle.pm_grammar.proofs.ArgumentNames.{argument_begun}
 use Rattle.pm_grammar.proofs.ExpressionStarts.{closing_opens, opens, parenthesis_opens}
-use Rattle.pm_grammar.proofs.OneMark.{argument_ends, bracket_no_comma, ends_bracket, ends_comma, ends_for, ends_parenthesis, name_is}
+use Rattle.pm_grammar.proofs.OneSymbol.{argument_ends, bracket_no_comma, ends_bracket, ends_comma, ends_for, ends_parenthesis, name_is}
 use Rattle.pm_grammar.proofs.OperandStarts.{IsBegun, begun_expression}
 use Rattle.pm_grammar.proofs.TokenTexts.{of_mark, of_word}
 use Rattle.pm_grammar.proofs.CallArguments.{GoesOnArguments, goes_argument, goes_arguments, no_plain_parameter, only_arguments, only_last, only_named, only_plain}
@@ -30,17 +30,17 @@ use Rattle.pm_grammar.proofs.Sequences.{sequence_is}
 
 -- ---- expressions with commas between them
 
--- an expression stands first, and each sequence of a list or a range goes on from these
+-- an expression comes first, and each sequence of a list or a range continues from these
 record IsSequenceRead (ts : List Token) (es : List Expr) (rest : List Token) : Type 0 where
   first : Expr
   behind : List Token
   first_only : IsOnly level.Conditional (ts ++ rest) (Some (first, behind))
-  no_for : IsNotThere (is_word (codes "for")) behind
+  no_for : IsNotFirst (is_word (codes "for")) behind
   items : GoesOnItems first behind es rest
   bounds : GoesOnBounds (ts ++ rest) es rest
 
 abbrev IsOneSequence : List Token → List Expr → Type 0
-IsOneSequence ts es = (rest : List Token) → Ends level.Conditional rest → IsNotThere (is_word (codes "for")) rest → IsSequenceRead ts es rest
+IsOneSequence ts es = (rest : List Token) → Ends level.Conditional rest → IsNotFirst (is_word (codes "for")) rest → IsSequenceRead ts es rest
 
 one_element : (ts : List Token) (e : Expr) → IsOne level.Conditional ts e → IsOneSequence ts (e ∷ [])
 one_element ts e one rest ends no_for =
@@ -64,12 +64,12 @@ not_begun test never ts rest begun =
     go true never = absurd (never refl)
     go false never = refl
 
-not_there : (test : Token → Bool) → ((t : Token) → IsTrue (test t) → opens t ≡ false) → (ts rest : List Token) → IsBegun opens ts → IsNotThere test (ts ++ rest)
+not_there : (test : Token → Bool) → ((t : Token) → IsTrue (test t) → opens t ≡ false) → (ts rest : List Token) → IsBegun opens ts → IsNotFirst test (ts ++ rest)
 not_there test never ts rest begun =
-    subst (λ (xs : List Token). IsNotThere test (xs ++ rest)) (sym begun.2)
+    subst (λ (xs : List Token). IsNotFirst test (xs ++ rest)) (sym begun.2)
     (subst (λ (xs : List Token). begins_with test (xs ++ rest) ≡ false) begun.2 (not_begun test never ts rest begun))
 
-one_more_element : (ts us : List Token) (comma : Token) (es : List Expr) (e : Expr) → IsTrue (is_mark (codes ",") comma) → Spells level.Conditional us e
+one_more_element : (ts us : List Token) (comma : Token) (es : List Expr) (e : Expr) → IsTrue (is_symbol (codes ",") comma) → Spells level.Conditional us e
     → IsOneSequence ts es → IsOne level.Conditional us e → IsOneSequence (ts ++ comma ∷ us) (es ++ e ∷ [])
 one_more_element ts us comma es e mark spelled one two rest ends no_for =
     let tail = us ++ rest in
@@ -83,7 +83,7 @@ one_more_element ts us comma es e mark spelled one two rest ends no_for =
       first_only = subst (λ (xs : List Token). IsOnly level.Conditional xs (Some (inner.first, inner.behind))) grouped inner.first_only;
       no_for = inner.no_for;
       items = goes_item inner.behind (comma ∷ tail) tail rest inner.first es e inner.items (comma, refl, mark)
-          (not_begun (is_mark (codes "]")) closing_opens us rest (begun_expression level.Conditional us e spelled)) only;
+          (not_begun (is_symbol (codes "]")) closing_opens us rest (begun_expression level.Conditional us e spelled)) only;
       bounds = subst (λ (xs : List Token). GoesOnBounds xs (es ++ e ∷ []) rest) grouped (goes_bound (ts ++ comma ∷ tail) (comma ∷ tail) tail rest es e inner.bounds (comma, refl, mark) only);
     }
 
@@ -95,25 +95,25 @@ sequence_begun ts es spelled =
 
 -- ---- lists
 
--- what stands behind an opening bracket
+-- what comes after an opening bracket
 abbrev IsOneList : List Token → List Expr → Type 0
-IsOneList ts es = (closing : Token) (rest : List Token) → IsTrue (is_mark (codes "]") closing) → IsOnlyBeginning SpellsList (ts ++ closing ∷ rest) (Some (expr.Items es, rest))
+IsOneList ts es = (closing : Token) (rest : List Token) → IsTrue (is_symbol (codes "]") closing) → IsOnlyBeginning SpellsList (ts ++ closing ∷ rest) (Some (expr.Items es, rest))
 
 one_list_of : (ts : List Token) (es : List Expr) → SpellsSequence ts es → IsOneSequence ts es → IsOneList ts es
 one_list_of ts es spelled one closing rest is =
     let no_for : is_word (codes "for") closing ≡ false = of_mark (codes "]") closing (is_word (codes "for")) false is refl in
     let inner = one (closing ∷ rest) (ends_bracket closing is) no_for in
     only_list (ts ++ closing ∷ rest) inner.behind (closing ∷ rest) rest inner.first es
-    (not_there (is_mark (codes "]")) closing_opens ts (closing ∷ rest) (sequence_begun ts es spelled)) inner.first_only inner.no_for
+    (not_there (is_symbol (codes "]")) closing_opens ts (closing ∷ rest) (sequence_begun ts es spelled)) inner.first_only inner.no_for
     (only_items inner.behind (closing ∷ rest) inner.first es inner.items (bracket_no_comma closing is)) (closing, refl, is)
 
-one_list_comma : (ts : List Token) (comma : Token) (es : List Expr) → IsTrue (is_mark (codes ",") comma) → SpellsSequence ts es → IsOneSequence ts es → IsOneList (ts ++ comma ∷ []) es
+one_list_comma : (ts : List Token) (comma : Token) (es : List Expr) → IsTrue (is_symbol (codes ",") comma) → SpellsSequence ts es → IsOneSequence ts es → IsOneList (ts ++ comma ∷ []) es
 one_list_comma ts comma es mark spelled one closing rest is =
     let no_for : is_word (codes "for") comma ≡ false = of_mark (codes ",") comma (is_word (codes "for")) false mark refl in
     let inner = one (comma ∷ closing ∷ rest) (ends_comma comma mark) no_for in
     subst (λ (xs : List Token). IsOnlyBeginning SpellsList xs (Some (expr.Items es, rest))) (sym (append_assoc ts (comma ∷ []) (closing ∷ rest)))
     (only_list (ts ++ comma ∷ closing ∷ rest) inner.behind (closing ∷ rest) rest inner.first es
-    (not_there (is_mark (codes "]")) closing_opens ts (comma ∷ closing ∷ rest) (sequence_begun ts es spelled)) inner.first_only inner.no_for
+    (not_there (is_symbol (codes "]")) closing_opens ts (comma ∷ closing ∷ rest) (sequence_begun ts es spelled)) inner.first_only inner.no_for
     (only_items_comma inner.behind (comma ∷ closing ∷ rest) (closing ∷ rest) inner.first es inner.items (comma, refl, mark) is) (closing, refl, is))
 
 -- ---- ranges
@@ -122,11 +122,11 @@ abbrev pub IsOneRange : List Token → List ℕ × List Expr → Type 0
 IsOneRange ts p = (rest : List Token) → IsOnlyBeginning SpellsRange (ts ++ rest) (Some (p, rest))
 
 one_range : (ts : List Token) (name in_word range opening closing : Token) (bounds : List Expr) → IsTrue (is_name name) → IsTrue (is_word (codes "in") in_word) → IsTrue (is_word (codes "range") range)
-    → IsTrue (is_mark (codes "(") opening) → IsTrue (is_mark (codes ")") closing) → IsOneSequence ts bounds
+    → IsTrue (is_symbol (codes "(") opening) → IsTrue (is_symbol (codes ")") closing) → IsOneSequence ts bounds
     → IsOneRange (name ∷ in_word ∷ range ∷ opening ∷ (ts ++ closing ∷ [])) (name.text, bounds)
 one_range ts name in_word range opening closing bounds named is_in is_range is_open is_close one rest =
     let no_for : is_word (codes "for") closing ≡ false = of_mark (codes ")") closing (is_word (codes "for")) false is_close refl in
-    let no_more : is_mark (codes ",") closing ≡ false = of_mark (codes ")") closing (is_mark (codes ",")) false is_close refl in
+    let no_more : is_symbol (codes ",") closing ≡ false = of_mark (codes ")") closing (is_symbol (codes ",")) false is_close refl in
     let inner = one (closing ∷ rest) (ends_parenthesis closing is_close) no_for in
     let tail = ts ++ closing ∷ rest in
     only_range (name ∷ in_word ∷ range ∷ opening ∷ ((ts ++ closing ∷ []) ++ rest)) tail (closing ∷ rest) rest name name.text bounds
@@ -142,8 +142,8 @@ one_range ts name in_word range opening closing bounds named is_in is_range is_o
     })
     refl (only_bounds tail (closing ∷ rest) bounds inner.bounds no_more) (closing, refl, is_close)
 
-one_each : (ts us : List Token) (opening for_word closing : Token) (e : Expr) (name : List ℕ) (bounds : List Expr) → IsTrue (is_mark (codes "[") opening) → IsTrue (is_word (codes "for") for_word)
-    → IsTrue (is_mark (codes "]") closing) → Spells level.Conditional ts e → IsOne level.Conditional ts e → IsOneRange us (name, bounds)
+one_each : (ts us : List Token) (opening for_word closing : Token) (e : Expr) (name : List ℕ) (bounds : List Expr) → IsTrue (is_symbol (codes "[") opening) → IsTrue (is_word (codes "for") for_word)
+    → IsTrue (is_symbol (codes "]") closing) → Spells level.Conditional ts e → IsOne level.Conditional ts e → IsOneRange us (name, bounds)
     → IsOne level.Atom (opening ∷ (ts ++ for_word ∷ (us ++ closing ∷ []))) (expr.Each e name bounds)
 one_each ts us opening for_word closing e name bounds is_open is_for is_close spelled one two =
     one_list (ts ++ for_word ∷ (us ++ closing ∷ [])) opening (expr.Each e name bounds) is_open (λ rest.
@@ -152,7 +152,7 @@ one_each ts us opening for_word closing e name bounds is_open is_for is_close sp
     subst (λ (xs : List Token). IsOnlyBeginning SpellsList xs (Some (expr.Each e name bounds, rest)))
     (sym (append_assoc ts (for_word ∷ (us ++ closing ∷ [])) rest ∙ ap (λ (xs : List Token). ts ++ for_word ∷ xs) (append_assoc us (closing ∷ []) rest)))
     (only_for all (for_word ∷ tail) tail e (Some (expr.Each e name bounds, rest))
-    (not_there (is_mark (codes "]")) closing_opens ts (for_word ∷ tail) (begun_expression level.Conditional ts e spelled))
+    (not_there (is_symbol (codes "]")) closing_opens ts (for_word ∷ tail) (begun_expression level.Conditional ts e spelled))
     ((one (for_word ∷ tail)).only (ends_for for_word is_for)) (for_word, refl, is_for)
     (only_each tail (closing ∷ rest) rest e (name, bounds) (two (closing ∷ rest)) (closing, refl, is_close))))
 
@@ -166,18 +166,18 @@ one_plain ts e spelled one behind rest is =
     let none : IsNoParameter (ts ++ behind ∷ rest) = λ name tail parameter. no_plain_parameter (ts ++ behind ∷ rest) tail rest name behind e parameter is (ts, refl, spelled) in
     only_plain (ts ++ behind ∷ rest) (behind ∷ rest) e none ((one (behind ∷ rest)).only (argument_ends behind is))
 
-one_named : (ts : List Token) (name sign : Token) (e : Expr) → IsTrue (is_name name) → IsTrue (is_mark (codes "=") sign) → IsOne level.Conditional ts e
+one_named : (ts : List Token) (name sign : Token) (e : Expr) → IsTrue (is_name name) → IsTrue (is_symbol (codes "=") sign) → IsOne level.Conditional ts e
     → IsOneArgument (name ∷ sign ∷ ts) (record { name = Some name.text; value = e })
 one_named ts name sign e named mark one behind rest is =
     only_named (name ∷ sign ∷ (ts ++ behind ∷ rest)) (ts ++ behind ∷ rest) (behind ∷ rest) name name.text e (sign, refl, named, mark) refl ((one (behind ∷ rest)).only (argument_ends behind is))
 
--- arguments were read, and the last one behind them
+-- arguments were read, and the last one after them
 record AreArgumentsRead (ts : List Token) (arguments : List Arg) (rest : List Token) : Type 0 where
   front : List Arg
   last : Arg
   from : List Token
   made : arguments ≡ front ++ last ∷ []
-  apart : begins_with (is_mark (codes ")")) from ≡ false
+  apart : begins_with (is_symbol (codes ")")) from ≡ false
   goes : GoesOnArguments (ts ++ rest) front from
   only : IsOnlyArgument from (Some (last, rest))
 
@@ -190,12 +190,12 @@ one_first_argument ts a spelled one behind rest is = record {
   last = a;
   from = ts ++ behind ∷ rest;
   made = refl;
-  apart = not_begun (is_mark (codes ")")) parenthesis_opens ts (behind ∷ rest) (argument_begun ts a spelled);
+  apart = not_begun (is_symbol (codes ")")) parenthesis_opens ts (behind ∷ rest) (argument_begun ts a spelled);
   goes = goes_arguments (ts ++ behind ∷ rest);
   only = one behind rest is;
 }
 
-one_more_argument : (ts us : List Token) (comma : Token) (arguments : List Arg) (a : Arg) → IsTrue (is_mark (codes ",") comma) → SpellsArgument us a
+one_more_argument : (ts us : List Token) (comma : Token) (arguments : List Arg) (a : Arg) → IsTrue (is_symbol (codes ",") comma) → SpellsArgument us a
     → AreOneArguments ts arguments → IsOneArgument us a → AreOneArguments (ts ++ comma ∷ us) (arguments ++ a ∷ [])
 one_more_argument ts us comma arguments a mark spelled one two behind rest is =
     let tail = us ++ behind ∷ rest in
@@ -206,14 +206,14 @@ one_more_argument ts us comma arguments a mark spelled one two behind rest is =
       last = a;
       from = tail;
       made = refl;
-      apart = not_begun (is_mark (codes ")")) parenthesis_opens us (behind ∷ rest) (argument_begun us a spelled);
+      apart = not_begun (is_symbol (codes ")")) parenthesis_opens us (behind ∷ rest) (argument_begun us a spelled);
       goes = subst (λ (xs : List Token). GoesOnArguments xs arguments tail) (sym (append_assoc ts (comma ∷ us) (behind ∷ rest)))
           (subst (λ (xs : List Arg). GoesOnArguments (ts ++ comma ∷ tail) xs tail) (sym inner.made) goes);
       only = two behind rest is;
     }
 
 abbrev AreAllArguments : List Token → List Arg → Type 0
-AreAllArguments ts arguments = (closing : Token) (rest : List Token) → IsTrue (is_mark (codes ")") closing) → IsOnlyBefore SpellsArguments (codes ")") (ts ++ closing ∷ rest) (Some (arguments, closing ∷ rest))
+AreAllArguments ts arguments = (closing : Token) (rest : List Token) → IsTrue (is_symbol (codes ")") closing) → IsOnlyBefore SpellsArguments (codes ")") (ts ++ closing ∷ rest) (Some (arguments, closing ∷ rest))
 
 all_none : AreAllArguments [] []
 all_none closing rest is = only_arguments (closing ∷ rest) (closing ∷ rest) [] is (goes_arguments (closing ∷ rest))
@@ -221,11 +221,11 @@ all_none closing rest is = only_arguments (closing ∷ rest) (closing ∷ rest) 
 all_some : (ts : List Token) (arguments : List Arg) → AreOneArguments ts arguments → AreAllArguments ts arguments
 all_some ts arguments one closing rest is =
     let inner = one closing rest (or_right _ _ is) in
-    let no_more : is_mark (codes ",") closing ≡ false = of_mark (codes ")") closing (is_mark (codes ",")) false is refl in
+    let no_more : is_symbol (codes ",") closing ≡ false = of_mark (codes ")") closing (is_symbol (codes ",")) false is refl in
     subst (λ (xs : List Arg). IsOnlyBefore SpellsArguments (codes ")") (ts ++ closing ∷ rest) (Some (xs, closing ∷ rest))) (sym inner.made)
     (only_last (ts ++ closing ∷ rest) inner.from (closing ∷ rest) inner.front inner.last inner.apart inner.goes inner.only no_more)
 
-all_comma : (ts : List Token) (comma : Token) (arguments : List Arg) → IsTrue (is_mark (codes ",") comma) → AreOneArguments ts arguments → AreAllArguments (ts ++ comma ∷ []) arguments
+all_comma : (ts : List Token) (comma : Token) (arguments : List Arg) → IsTrue (is_symbol (codes ",") comma) → AreOneArguments ts arguments → AreAllArguments (ts ++ comma ∷ []) arguments
 all_comma ts comma arguments mark one closing rest is =
     let all = ts ++ comma ∷ closing ∷ rest in
     let inner = one comma (closing ∷ rest) (or_left _ _ mark) in
@@ -297,7 +297,7 @@ mutual
   only_arguments_spelled _ _ (spells.some_arguments ts arguments s) = all_some ts arguments (only_argument_sequence_spelled ts arguments s)
   only_arguments_spelled _ _ (spells.arguments_comma ts comma arguments s mark) = all_comma ts comma arguments mark (only_argument_sequence_spelled ts arguments s)
 
--- an expression is the only reading before what doesn't go on from it
+-- an expression is the only reading before what doesn't continue from it
 pub only_expression_spelled : (ts rest : List Token) (e : Expr) → Spells level.Conditional ts e → Ends level.Conditional rest → IsOnly level.Conditional (ts ++ rest) (Some (e, rest))
 only_expression_spelled ts rest e spelled ends = (only_spelled level.Conditional ts e spelled rest).only ends
 

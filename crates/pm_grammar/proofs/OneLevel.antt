@@ -1,4 +1,4 @@
--- An operation of one level: its first operand, and the operands behind it.
+-- An operation of one level: its first operand, and the operands after it.
 use Rattle.std.proofs.Common.{◌≡◌, ◌⊎◌, ◌++◌, ◌∙◌, false, IsTrue, List, [], ◌∷◌, codes, Some, append_assoc, append-nil, refl, sym, ap, subst, inl, inr, arith}
 use Rattle.std.proofs.lemmas.Bool.{both_ways, false≢true}
 use Rattle.pm_syn.specs.declared.expression.BinaryOp.{BinaryOp}
@@ -9,7 +9,7 @@ use Rattle.pm_syn.specs.declared.token.Token.{Token}
 use Rattle.pm_grammar.specs.Expressions.{Spells}
 use Rattle.pm_grammar.specs.Expressions as spells
 use Rattle.pm_grammar.specs.Levels.{groups_left, operator_at, tighter}
-use Rattle.pm_grammar.specs.Marks.{is_word}
+use Rattle.pm_grammar.specs.Tokens.{is_word}
 use Rattle.pm_grammar.specs.Reading.{Begins, Ends, IsOnly, continues}
 use Rattle.pm_grammar.specs.declared.level.Level.{Level}
 use Rattle.pm_grammar.specs.declared.level.Level.TheVariants as level
@@ -20,7 +20,7 @@ use Rattle.pm_grammar.proofs.OperatorLevels.{ends_at, ends_tighter, goes_at}
 
 -- ---- operators that group to the left
 
--- operands of the tighter level behind an operand, each behind an operator of the level
+-- operands of the tighter level after an operand, each after an operator of the level
 pub data Grouped (l : Level) : Expr → List Token → Expr → Type 0 where
   alone : (a : Expr) → Grouped l a [] a
   behind : (a b e : Expr) (ts us : List Token) (sign : Token) (op : BinaryOp) → operator_at l sign ≡ Some op → Spells (tighter l) ts b → Grouped l (expr.Binary op a b) us e → Grouped l a (sign ∷ (ts ++ us)) e
@@ -32,7 +32,7 @@ grouped_end l a b c ts us sign op (behind _ d _ vs ws mark other there operand m
     subst (λ (xs : List Token). Grouped l a (mark ∷ xs) (expr.Binary op b c)) (sym (append_assoc vs ws (sign ∷ us)))
     (behind a d (expr.Binary op b c) vs (ws ++ sign ∷ us) mark other there operand (grouped_end l (expr.Binary other a d) b c ws us sign op more is spelled))
 
--- a first operand of the tighter level, and the others behind it
+-- a first operand of the tighter level, and the others after it
 record IsGrouped (l : Level) (ts : List Token) (e : Expr) : Type 0 where
   us : List Token
   vs : List Token
@@ -71,11 +71,11 @@ grouped_is l ts e (spells.group _ _ _ _ _ _ _) groups = absurd (false≢true gro
 grouped_is l ts e (spells.items _ _ _ _ _ _ _) groups = absurd (false≢true groups)
 grouped_is l ts e (spells.each _ _ _ _ _ _ _ _ _ _ _ _ _) groups = absurd (false≢true groups)
 
--- each operation of the level with which the tokens begin, and that doesn't go on behind it, goes on from this one
+-- each operation of the level with which the tokens begin, and that doesn't continue after it, continues from this one
 abbrev pub GoesOnAt : Level → List Token → Expr → List Token → Type 0
 GoesOnAt l all e rest = (other : Expr) (left : List Token) → Begins (Spells l) all other left → Ends l left → (us : List Token) × (rest ≡ us ++ left) × Grouped l e us other
 
--- behind the first operand, no operand goes on
+-- after the first operand, no operand continues
 pub ends_operand : (l : Level) (sign : Token) (op : BinaryOp) (tail : List Token) → IsTrue (groups_left l) → operator_at l sign ≡ Some op → Ends (tighter l) (sign ∷ tail)
 ends_operand l sign op tail groups is =
     let below = groups_below l groups in
@@ -93,7 +93,7 @@ goes_at_first l all rest a groups only = λ other left begins ends.
     let read = only parts.first (parts.vs ++ left) (parts.us, split, parts.spelled) (grouped_ends l parts.first other parts.vs left groups parts.more ends) in
     (parts.vs, sym read.1, subst (λ (b : Expr). Grouped l b parts.vs other) read.0 parts.more)
 
--- behind an operator, an operand and the others
+-- after an operator, an operand and the others
 record GoesOnBehind (l : Level) (op : BinaryOp) (a : Expr) (tail : List Token) (e : Expr) (left : List Token) : Type 0 where
   right : Expr
   us : List Token
@@ -127,7 +127,7 @@ grouped_done l a e us left rest front ends (alone _) = (refl, sym front)
 grouped_done l a e us left rest front ends (behind _ b _ vs ws sign op is spelled more) =
     absurd (both_ways (continues l sign) (subst (λ (xs : List Token). Ends l xs) front ends) (goes_at l l sign op is (omega arith)))
 
--- no operator of the level stands behind the operation
+-- no operator of the level comes after the operation
 pub only_at : (l : Level) (all rest : List Token) (a : Expr) → GoesOnAt l all a rest → Ends l rest → IsOnly l all (Some (a, rest))
 only_at l all rest a goes stops = λ other left begins ends.
     let on = goes other left begins ends in
@@ -170,7 +170,7 @@ compared_is ts e (spells.grouped_left _ _ _ _ _ _ _ groups _ _ _) = absurd (fals
 compared_split : (all ts us vs left : List Token) (sign : Token) → all ≡ ts ++ left → ts ≡ us ++ sign ∷ vs → all ≡ us ++ sign ∷ (vs ++ left)
 compared_split all ts us vs left sign split front = split ∙ ap (λ (xs : List Token). xs ++ left) front ∙ append_assoc us (sign ∷ vs) left
 
--- no operator stands behind the first operand
+-- no operator comes after the first operand
 pub only_uncompared : (all rest : List Token) (a : Expr) → IsOnly level.BitOr all (Some (a, rest)) → Ends level.Comparison rest → IsOnly level.Comparison all (Some (a, rest))
 only_uncompared all rest a only stops = λ e left begins ends.
     elim (compared_is begins.0 e begins.2) [

@@ -1,4 +1,4 @@
--- That what was spelled is the only reading of its tokens, where this holds of its parts.
+-- That what was spelled is the only reading of its tokens, if this holds of its parts.
 use Rattle.std.proofs.Common.{◌≡◌, ◌++◌, ◌∙◌, Bool, false, true, if◌then◌else◌, IsTrue, List, [], ◌∷◌, codes, Option, Some, None, append_assoc, refl, sym, ap, subst, arith}
 use Rattle.std.specs.Prelude.{◌&&◌, is_some}
 use Rattle.std.specs.Str.{bytes_eq}
@@ -13,16 +13,16 @@ use Rattle.pm_syn.specs.declared.expression.UnaryOp.TheVariants as unary
 use Rattle.pm_syn.specs.declared.token.Token.{Token}
 use Rattle.pm_grammar.specs.Brackets.{SpellsLeaf, SpellsList}
 use Rattle.pm_grammar.specs.Expressions.{Spells, SpellsArguments}
-use Rattle.pm_grammar.specs.Fronts.{IsNotThere}
+use Rattle.pm_grammar.specs.Prefixes.{IsNotFirst}
 use Rattle.pm_grammar.specs.Levels.{groups_left, operator_at, rank, sign_of, tighter}
-use Rattle.pm_grammar.specs.Marks.{is_mark, is_op, is_word}
+use Rattle.pm_grammar.specs.Tokens.{is_symbol, is_op, is_word}
 use Rattle.pm_grammar.specs.Reading.{Ends, IsOnly, IsOnlyBeginning, IsOnlyBefore}
 use Rattle.pm_grammar.specs.Suffixes.{IsOnlySuffix, begins_suffix}
 use Rattle.pm_grammar.specs.declared.level.Level.{Level}
 use Rattle.pm_grammar.specs.declared.level.Level.TheVariants as level
 use Rattle.pm_grammar.proofs.Atoms.{atom_of_group, atom_of_list, only_group, only_leaf}
 use Rattle.pm_grammar.proofs.ExpressionStarts.{starts}
-use Rattle.pm_grammar.proofs.OneMark.{ends_bracket, ends_colon, ends_else, ends_if, ends_parenthesis, power_ends_base}
+use Rattle.pm_grammar.proofs.OneSymbol.{ends_bracket, ends_colon, ends_else, ends_if, ends_parenthesis, power_ends_base}
 use Rattle.pm_grammar.proofs.OperandStarts.{begun_tight, sign_starts}
 use Rattle.pm_grammar.proofs.TokenTexts.{of_mark}
 use Rattle.pm_grammar.proofs.Conditionals.{only_conditional, only_value}
@@ -33,13 +33,13 @@ use Rattle.pm_grammar.proofs.Powers.{ends_unary, only_base, only_power, only_sig
 use Rattle.pm_grammar.proofs.SuffixChains.{GoesOnSuffixes, ends_atom, goes_atom, goes_suffix, only_postfix}
 use Rattle.pm_grammar.proofs.SuffixKinds.{only_attribute, only_call, only_index, only_slice, only_suffix_attribute, only_suffix_call, only_suffix_place}
 
--- each reading of the tokens is this one, or goes on from it where the level groups to the left or has suffixes
+-- each reading of the tokens is this one, or continues from it where the level groups to the left or has suffixes
 pub record IsOnlyReading (l : Level) (ts : List Token) (e : Expr) (rest : List Token) : Type 0 where
   pub only : Ends l rest → IsOnly l (ts ++ rest) (Some (e, rest))
   pub goes : IsTrue (groups_left l) → Ends (tighter l) rest → GoesOnAt l (ts ++ rest) e rest
   pub suffixes : rank l ≡ 13 → GoesOnSuffixes (ts ++ rest) e rest
 
--- so it is, whatever stands behind
+-- so it is, whatever comes after
 abbrev pub IsOne : Level → List Token → Expr → Type 0
 IsOne l ts e = (rest : List Token) → IsOnlyReading l ts e rest
 
@@ -70,7 +70,7 @@ one_left l ts e groups one rest =
       suffixes = λ at. absurd (omega (arith, below, at));
     }
 
-no_if : (rest : List Token) → Ends level.Conditional rest → IsNotThere (is_word (codes "if")) rest
+no_if : (rest : List Token) → Ends level.Conditional rest → IsNotFirst (is_word (codes "if")) rest
 no_if [] ends = tt
 no_if (t ∷ rest) ends = (or_parts _ _ ends).0
 
@@ -78,9 +78,9 @@ is_no_power : (test : Bool) → is_some (if test then Some binary.Pow else None)
 is_no_power true is = absurd (false≢true (sym is))
 is_no_power false is = refl
 
-no_power : (rest : List Token) → Ends level.Power rest → IsNotThere (is_mark (codes "**")) rest
+no_power : (rest : List Token) → Ends level.Power rest → IsNotFirst (is_symbol (codes "**")) rest
 no_power [] ends = tt
-no_power (t ∷ rest) ends = is_no_power (is_mark (codes "**") t) (or_parts _ _ ends).0
+no_power (t ∷ rest) ends = is_no_power (is_symbol (codes "**") t) (or_parts _ _ ends).0
 
 no_suffix : (rest : List Token) → Ends level.Postfix rest → begins_suffix rest ≡ false
 no_suffix [] ends = refl
@@ -177,7 +177,7 @@ power_operator false op is = cc
 pub one_power : (ts us : List Token) (sign : Token) (op : BinaryOp) (base exponent : Expr) → operator_at level.Power sign ≡ Some op
     → IsOne level.Postfix ts base → IsOne level.Unary us exponent → IsOne level.Power (ts ++ sign ∷ us) (expr.Binary op base exponent)
 one_power ts us sign op base exponent is one two = plainly level.Power (ts ++ sign ∷ us) (expr.Binary op base exponent) refl (λ at. omega (arith, at)) (λ rest ends.
-    let there = power_operator (is_mark (codes "**") sign) op is in
+    let there = power_operator (is_symbol (codes "**") sign) op is in
     moved level.Power (ts ++ sign ∷ (us ++ rest)) ((ts ++ sign ∷ us) ++ rest) (Some (expr.Binary op base exponent, rest)) (append_assoc ts (sign ∷ us) rest)
     (subst (λ (o : BinaryOp). IsOnly level.Power (ts ++ sign ∷ (us ++ rest)) (Some (expr.Binary o base exponent, rest))) there.0
     (only_power (ts ++ sign ∷ (us ++ rest)) (sign ∷ (us ++ rest)) (us ++ rest) rest base exponent
@@ -201,7 +201,7 @@ one_suffix ts vs a b one suffix rest =
       suffixes = λ at. goes;
     }
 
-pub one_attribute : (ts : List Token) (dot name : Token) (e : Expr) → IsTrue (is_mark (codes ".") dot) → IsOne level.Postfix ts e → IsOne level.Postfix (ts ++ dot ∷ name ∷ []) (expr.Attr e name.text)
+pub one_attribute : (ts : List Token) (dot name : Token) (e : Expr) → IsTrue (is_symbol (codes ".") dot) → IsOne level.Postfix ts e → IsOne level.Postfix (ts ++ dot ∷ name ∷ []) (expr.Attr e name.text)
 one_attribute ts dot name e is one = one_suffix ts (dot ∷ name ∷ []) e (expr.Attr e name.text) one (λ rest. (
   or_left _ _ (or_left _ _ is),
   only_suffix_attribute (dot ∷ name ∷ rest) (name ∷ rest) e (Some (expr.Attr e name.text, rest)) (dot, refl, is) (only_attribute (name ∷ rest) rest e name name.text refl refl),
@@ -210,7 +210,7 @@ one_attribute ts dot name e is one = one_suffix ts (dot ∷ name ∷ []) e (expr
 suffix_moved : (e longer : Expr) (all other rest : List Token) → other ≡ all → IsOnlySuffix e all (Some (longer, rest)) → IsOnlySuffix e other (Some (longer, rest))
 suffix_moved e longer all other rest same only = subst (λ (xs : List Token). IsOnlySuffix e xs (Some (longer, rest))) (sym same) only
 
-pub one_call : (ts us : List Token) (opening closing : Token) (e : Expr) (arguments : List Arg) → IsTrue (is_mark (codes "(") opening) → IsTrue (is_mark (codes ")") closing)
+pub one_call : (ts us : List Token) (opening closing : Token) (e : Expr) (arguments : List Arg) → IsTrue (is_symbol (codes "(") opening) → IsTrue (is_symbol (codes ")") closing)
     → IsOne level.Postfix ts e → ((rest : List Token) → IsOnlyBefore SpellsArguments (codes ")") (us ++ closing ∷ rest) (Some (arguments, closing ∷ rest)))
     → IsOne level.Postfix (ts ++ opening ∷ (us ++ closing ∷ [])) (expr.Call e arguments)
 one_call ts us opening closing e arguments is_open is_close one two = one_suffix ts (opening ∷ (us ++ closing ∷ [])) e (expr.Call e arguments) one (λ rest. (
@@ -220,7 +220,7 @@ one_call ts us opening closing e arguments is_open is_close one two = one_suffix
       (only_call (us ++ closing ∷ rest) (closing ∷ rest) rest e arguments (two rest) (closing, refl, is_close))),
 ))
 
-pub one_index : (ts us : List Token) (opening closing : Token) (e place : Expr) → IsTrue (is_mark (codes "[") opening) → IsTrue (is_mark (codes "]") closing)
+pub one_index : (ts us : List Token) (opening closing : Token) (e place : Expr) → IsTrue (is_symbol (codes "[") opening) → IsTrue (is_symbol (codes "]") closing)
     → IsOne level.Postfix ts e → IsOne level.Conditional us place → IsOne level.Postfix (ts ++ opening ∷ (us ++ closing ∷ [])) (expr.Index e place)
 one_index ts us opening closing e place is_open is_close one two = one_suffix ts (opening ∷ (us ++ closing ∷ [])) e (expr.Index e place) one (λ rest. (
   or_right _ _ is_open,
@@ -229,7 +229,7 @@ one_index ts us opening closing e place is_open is_close one two = one_suffix ts
       (only_index (us ++ closing ∷ rest) (closing ∷ rest) rest e place ((two (closing ∷ rest)).only (ends_bracket closing is_close)) (closing, refl, is_close))),
 ))
 
-pub one_slice : (ts us vs : List Token) (opening colon closing : Token) (e low high : Expr) → IsTrue (is_mark (codes "[") opening) → IsTrue (is_mark (codes ":") colon) → IsTrue (is_mark (codes "]") closing)
+pub one_slice : (ts us vs : List Token) (opening colon closing : Token) (e low high : Expr) → IsTrue (is_symbol (codes "[") opening) → IsTrue (is_symbol (codes ":") colon) → IsTrue (is_symbol (codes "]") closing)
     → IsOne level.Postfix ts e → IsOne level.Conditional us low → IsOne level.Conditional vs high
     → IsOne level.Postfix (ts ++ opening ∷ (us ++ colon ∷ (vs ++ closing ∷ []))) (expr.Slice e low high)
 one_slice ts us vs opening colon closing e low high is_open is_colon is_close one two three = one_suffix ts (opening ∷ (us ++ colon ∷ (vs ++ closing ∷ []))) e (expr.Slice e low high) one (λ rest.
@@ -237,7 +237,7 @@ one_slice ts us vs opening colon closing e low high is_open is_colon is_close on
     let all = us ++ colon ∷ tail in
     let grouped : opening ∷ ((us ++ colon ∷ (vs ++ closing ∷ [])) ++ rest) ≡ opening ∷ all =
     ap (λ (xs : List Token). opening ∷ xs) (append_assoc us (colon ∷ (vs ++ closing ∷ [])) rest ∙ ap (λ (xs : List Token). us ++ colon ∷ xs) (append_assoc vs (closing ∷ []) rest)) in
-    let no_closing : is_mark (codes "]") colon ≡ false = of_mark (codes ":") colon (is_mark (codes "]")) false is_colon refl in (
+    let no_closing : is_symbol (codes "]") colon ≡ false = of_mark (codes ":") colon (is_symbol (codes "]")) false is_colon refl in (
       or_right _ _ is_open,
       suffix_moved e (expr.Slice e low high) (opening ∷ all) (opening ∷ ((us ++ colon ∷ (vs ++ closing ∷ [])) ++ rest)) rest grouped
           (only_suffix_place (opening ∷ all) all e (Some (expr.Slice e low high, rest)) (opening, refl, is_open)
@@ -251,14 +251,14 @@ pub one_leaf : (token : Token) (e : Expr) → is_op token.kind ≡ false → ((o
 one_leaf token e no_mark only = plainly level.Atom (token ∷ []) e refl (λ at. omega (arith, at)) (λ rest ends.
     only_leaf (token ∷ rest) rest token e refl (ap (λ (op : Bool). op && bytes_eq token.text (codes "(")) no_mark) (ap (λ (op : Bool). op && bytes_eq token.text (codes "[")) no_mark) only)
 
-pub one_group : (ts : List Token) (opening closing : Token) (e : Expr) → IsTrue (is_mark (codes "(") opening) → IsTrue (is_mark (codes ")") closing)
+pub one_group : (ts : List Token) (opening closing : Token) (e : Expr) → IsTrue (is_symbol (codes "(") opening) → IsTrue (is_symbol (codes ")") closing)
     → IsOne level.Conditional ts e → IsOne level.Atom (opening ∷ (ts ++ closing ∷ [])) e
 one_group ts opening closing e is_open is_close one = plainly level.Atom (opening ∷ (ts ++ closing ∷ [])) e refl (λ at. omega (arith, at)) (λ rest ends.
     moved level.Atom (opening ∷ (ts ++ closing ∷ rest)) (opening ∷ ((ts ++ closing ∷ []) ++ rest)) (Some (e, rest)) (ap (λ (xs : List Token). opening ∷ xs) (append_assoc ts (closing ∷ []) rest))
     (atom_of_group (opening ∷ (ts ++ closing ∷ rest)) (ts ++ closing ∷ rest) (Some (e, rest)) (opening, refl, is_open)
     (only_group (ts ++ closing ∷ rest) (closing ∷ rest) rest e ((one (closing ∷ rest)).only (ends_parenthesis closing is_close)) (closing, refl, is_close))))
 
-pub one_list : (ts : List Token) (opening : Token) (e : Expr) → IsTrue (is_mark (codes "[") opening) → ((rest : List Token) → IsOnlyBeginning SpellsList (ts ++ rest) (Some (e, rest)))
+pub one_list : (ts : List Token) (opening : Token) (e : Expr) → IsTrue (is_symbol (codes "[") opening) → ((rest : List Token) → IsOnlyBeginning SpellsList (ts ++ rest) (Some (e, rest)))
     → IsOne level.Atom (opening ∷ ts) e
 one_list ts opening e is_open one = plainly level.Atom (opening ∷ ts) e refl (λ at. omega (arith, at)) (λ rest ends.
     atom_of_list (opening ∷ (ts ++ rest)) (ts ++ rest) (Some (e, rest)) (opening, refl, is_open) (one rest))

@@ -6,16 +6,16 @@ use Rattle.pm_syn.specs.declared.statement.Stmt.{Stmt}
 use Rattle.pm_syn.specs.declared.statement.Stmt as leaf
 use Rattle.pm_syn.specs.declared.token.Token.{Token}
 use Rattle.pm_syn.specs.declared.token.TokenKind.TheVariants as kind
-use Rattle.pm_grammar.specs.ExpressionStatements.{SpellsBehind, SpellsWithExpression}
-use Rattle.pm_grammar.specs.Fronts.{IsNotThere, begins_with}
+use Rattle.pm_grammar.specs.ExpressionStatements.{SpellsAfter, SpellsWithExpression}
+use Rattle.pm_grammar.specs.Prefixes.{IsNotFirst, begins_with}
 use Rattle.pm_syn.specs.Names.{is_keyword}
-use Rattle.pm_grammar.specs.Marks.{is_word}
+use Rattle.pm_grammar.specs.Tokens.{is_word}
 use Rattle.pm_grammar.specs.Reading.{Ends, IsOnly}
 use Rattle.pm_grammar.specs.Statements.{IsExpression, SpellsSimple}
 use Rattle.pm_grammar.specs.Statements as simple
 use Rattle.pm_grammar.specs.declared.level.Level.TheVariants as level
 use Rattle.pm_grammar.proofs.ExpressionStarts.{begins_more, opens, opens_expression}
-use Rattle.pm_grammar.proofs.OneMark.{ends-mark, ends_colon, ends_comma, ends_equals}
+use Rattle.pm_grammar.proofs.OneSymbol.{ends-mark, ends_colon, ends_comma, ends_equals}
 use Rattle.pm_grammar.proofs.TokenTexts.{by_string, by_word, like}
 use Rattle.pm_grammar.proofs.OneExpression.{only_expression_spelled, tokens_spell_one_expression}
 use Rattle.pm_grammar.proofs.SimpleStatements.{assertion_read, assigned_only, assignment_ends, behind_done, behind_read, joined_only, joined_value, simple-other, simple-pass, simple-return, simple-strings, value_none, value_read, value_some}
@@ -36,14 +36,14 @@ other_statement (t ∷ ts) s begins spelled =
     simple-other (t ∷ ts) ts t refl (no_word (codes "pass") t refl begins) (no_word (codes "return") t refl begins) (no_word (codes "assert") t refl begins)
     (λ strings. both_ways (opens t) (by_string (λ t. opens t ≡ false) t strings.0 refl) begins) s spelled
 
--- where an expression stands first, this stands behind it
-behind_it : (ts rest : List Token) (target : Expr) (s : Stmt) → IsExpression ts target → Ends level.Conditional rest → SpellsSimple (ts ++ rest) s → SpellsBehind target rest s
+-- if an expression comes first, this comes after it
+behind_it : (ts rest : List Token) (target : Expr) (s : Stmt) → IsExpression ts target → Ends level.Conditional rest → SpellsSimple (ts ++ rest) s → SpellsAfter target rest s
 behind_it ts rest target s first ends spelled =
     behind_read (ts ++ rest) rest target (only_expression_spelled ts rest target first ends) s
     (other_statement (ts ++ rest) s (begins_more opens ts rest (opens_expression first)) spelled)
 
 -- `lambda` begins no expression
-no_lambda : (ts : List Token) (e : Expr) → IsExpression ts e → IsNotThere (is_word (codes "lambda")) ts
+no_lambda : (ts : List Token) (e : Expr) → IsExpression ts e → IsNotFirst (is_word (codes "lambda")) ts
 unfolding is_keyword
 no_lambda [] e spelled = tt
 no_lambda (t ∷ ts) e spelled = no_word (codes "lambda") t refl (opens_expression spelled)

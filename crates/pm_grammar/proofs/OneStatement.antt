@@ -9,12 +9,12 @@ use Rattle.pm_syn.specs.declared.statement.Stmt.{Stmt}
 use Rattle.pm_syn.specs.declared.statement.Stmt as leaf
 use Rattle.pm_syn.specs.declared.statement.Stmt.TheViews as stmt
 use Rattle.pm_syn.specs.declared.token.Token.{Token}
-use Rattle.pm_grammar.specs.Fronts.{IsNotThere, begins_with}
+use Rattle.pm_grammar.specs.Prefixes.{IsNotFirst, begins_with}
 use Rattle.pm_grammar.specs.Brackets.{ends_argument}
 use Rattle.pm_grammar.specs.Headers.{IsGuard, IsOnlyParameter, IsSignature, OpensGuard, SpellsBase, SpellsBranch, SpellsClass, SpellsDecorator, SpellsDefinition, SpellsFunctionEnd, SpellsImport}
 use Rattle.pm_grammar.specs.Headers as header
 use Rattle.pm_grammar.specs.Laws.{TokensSpellOneStatement}
-use Rattle.pm_grammar.specs.Marks.{is_mark, is_name, is_word}
+use Rattle.pm_grammar.specs.Tokens.{is_symbol, is_name, is_word}
 use Rattle.pm_grammar.specs.Reading.{Ends, IsOnlyBefore}
 use Rattle.pm_grammar.specs.Statements.{IsExpression, SpellsEnd, SpellsLine, SpellsOptional, SpellsParameter, SpellsParameters, SpellsResult, SpellsSignature, SpellsSimple}
 use Rattle.pm_grammar.specs.Statements as line
@@ -22,7 +22,7 @@ use Rattle.pm_grammar.specs.declared.level.Level.TheVariants as level
 use Rattle.pm_grammar.proofs.Headers.{IsOnlyCondition, elif_read, else_read, expression_before, guard_read_once, if_read, none_behind, only_alone, only_before_end, only_with, optional_behind, result_behind, some_behind}
 use Rattle.pm_grammar.proofs.Headers as headers
 use Rattle.pm_grammar.proofs.ExpressionStarts.{none_opens, opens, opens_expression}
-use Rattle.pm_grammar.proofs.OneMark.{argument_ends, ends_colon, ends_parenthesis, mark_no_name, mark_no_word, no_argument_end, other_mark, other_word, word_no_mark}
+use Rattle.pm_grammar.proofs.OneSymbol.{argument_ends, ends_colon, ends_parenthesis, mark_no_name, mark_no_word, no_argument_end, other_mark, other_word, word_no_mark}
 use Rattle.pm_grammar.proofs.StatementStarts.{no_simple_at, no_simple_class, no_simple_def, no_simple_elif, no_simple_else, no_simple_for, no_simple_from, no_simple_if, opens_simple, opens_statement}
 use Rattle.pm_grammar.proofs.Lines.{at_only, branch_only, class_only, def_only, for_only, import_read}
 use Rattle.pm_grammar.proofs.OneExpression.{only_expression_spelled, only_range_spelled}
@@ -39,11 +39,11 @@ one_end _ _ (line.with_statement colon ts s is spelled) other also =
     ap Some (ap Some (sym (one_simple ts s spelled read.0 read.2)) ∙ sym read.1)
 
 -- the end of a header begins with a colon
-end_begun : (ts : List Token) (body : Option Stmt) → SpellsEnd ts body → (colon : Token) × (us : List Token) × (ts ≡ colon ∷ us) × IsTrue (is_mark (codes ":") colon)
+end_begun : (ts : List Token) (body : Option Stmt) → SpellsEnd ts body → (colon : Token) × (us : List Token) × (ts ≡ colon ∷ us) × IsTrue (is_symbol (codes ":") colon)
 end_begun _ _ (line.alone colon is) = (colon, [], refl, is)
 end_begun _ _ (line.with_statement colon ts s is spelled) = (colon, ts, refl, is)
 
--- no expression goes on there
+-- no expression continues there
 end_ends : (ts : List Token) (body : Option Stmt) → SpellsEnd ts body → Ends level.Conditional ts
 end_ends _ _ (line.alone colon is) = ends_colon colon is
 end_ends _ _ (line.with_statement colon ts s is spelled) = ends_colon colon is
@@ -58,11 +58,11 @@ one_condition ts us condition body spelled ends = λ other behind is.
 
 -- ---- parameters
 
-one_optional : (bytes : List ℕ) (ts rest : List Token) (e : Option Expr) → SpellsOptional bytes ts e → IsNotThere (is_mark bytes) rest → Ends level.Conditional rest → IsOnlyOptional bytes (ts ++ rest) (Some (e, rest))
+one_optional : (bytes : List ℕ) (ts rest : List Token) (e : Option Expr) → SpellsOptional bytes ts e → IsNotFirst (is_symbol bytes) rest → Ends level.Conditional rest → IsOnlyOptional bytes (ts ++ rest) (Some (e, rest))
 one_optional bytes _ rest _ line.absent not_there ends = λ other left begins left_not left_ends. none_there begins.0 left other begins.1 begins.2 where
   none_there : (front left : List Token) (other : Option Expr) → rest ≡ front ++ left → SpellsOptional bytes front other → (other ≡ None) × (left ≡ rest)
   none_there _ left _ split line.absent = (refl, sym split)
-  none_there _ left _ split (line.present sign us e is spelled) = absurd (both_ways (is_mark bytes sign) (subst (IsNotThere (is_mark bytes)) split not_there) is)
+  none_there _ left _ split (line.present sign us e is spelled) = absurd (both_ways (is_symbol bytes sign) (subst (IsNotFirst (is_symbol bytes)) split not_there) is)
 one_optional bytes _ rest _ (line.present sign ts e is spelled) not_there ends = λ other left begins left_not left_ends.
     let read = optional_behind bytes (sign ∷ (ts ++ rest)) (ts ++ rest) (sign, refl, is) other left begins left_not in
     let same = only_expression_spelled ts rest e spelled ends read.0 left read.2 left_ends in
@@ -80,7 +80,7 @@ one_parameter _ _ (line.parameter name ts us note default named note_is default_
     only_parameter (name ∷ tail) tail mid behind name name.text note default (Some (note, mid)) (Some (default, behind)) refl notes refl defaults refl refl
 
 -- a parameter begins with a name
-parameter_begun : (ts : List Token) (p : Par) → SpellsParameter ts p → (rest : List Token) → begins_with (is_mark (codes ")")) (ts ++ rest) ≡ false
+parameter_begun : (ts : List Token) (p : Par) → SpellsParameter ts p → (rest : List Token) → begins_with (is_symbol (codes ")")) (ts ++ rest) ≡ false
 parameter_begun _ _ (line.parameter name _ _ _ _ named _ _) rest = false_from_ne_true _ (λ is. both_ways (is_name name) (mark_no_name (codes ")") name is) named)
 
 one_going_on : (ts : List Token) (ps : List Par) → SpellsParameters ts ps → (next : Token) (rest : List Token) → IsTrue (ends_argument next) → IsGoingOn (ts ++ next ∷ rest) ps (next ∷ rest)
@@ -91,9 +91,9 @@ one_going_on _ _ (line.and_parameter comma ts us ps p first mark spelled) next r
     subst (λ (xs : List Token). IsGoingOn xs (ps ++ p ∷ []) (next ∷ rest)) (sym (append_assoc ts (comma ∷ us) (next ∷ rest)))
     (goes_next (ts ++ comma ∷ tail) (comma ∷ tail) tail (next ∷ rest) ps p (Some (p, next ∷ rest)) inner (comma, refl, mark) (parameter_begun us p spelled (next ∷ rest)) (one_parameter us p spelled next rest ends) refl)
 
--- what stands between the parentheses of a function
+-- what comes between the parentheses of a function
 abbrev IsOneSignature : List Token → Bool → List Par → Type 0
-IsOneSignature ts has_self ps = (closing : Token) (rest : List Token) → IsTrue (is_mark (codes ")") closing) → IsOnlyBefore IsSignature (codes ")") (ts ++ closing ∷ rest) (Some ((has_self, ps), closing ∷ rest))
+IsOneSignature ts has_self ps = (closing : Token) (rest : List Token) → IsTrue (is_symbol (codes ")") closing) → IsOnlyBefore IsSignature (codes ")") (ts ++ closing ∷ rest) (Some ((has_self, ps), closing ∷ rest))
 
 one_signature : (ts : List Token) (has_self : Bool) (ps : List Par) → SpellsSignature ts has_self ps → IsOneSignature ts has_self ps
 one_signature _ _ _ line.without_parameters = λ closing rest is. no_self_only (closing ∷ rest) (mark_no_word (codes ")") (codes "s") closing is)
@@ -105,18 +105,18 @@ one_signature _ _ _ (line.parameters_comma comma ts ps spelled mark) = λ closin
 
 -- ---- the annotation of a result
 
--- no arrow stands there
-no_arrow : (front rest left : List Token) (other : Option Expr) (colon : Token) → SpellsResult front other → rest ≡ front ++ left → IsTrue (is_mark (codes ":") colon) → (us : List Token) → rest ≡ colon ∷ us → (other ≡ None) × (left ≡ rest)
+-- no arrow is there
+no_arrow : (front rest left : List Token) (other : Option Expr) (colon : Token) → SpellsResult front other → rest ≡ front ++ left → IsTrue (is_symbol (codes ":") colon) → (us : List Token) → rest ≡ colon ∷ us → (other ≡ None) × (left ≡ rest)
 no_arrow _ rest left _ colon line.unsaid split is us there = (refl, sym split)
 no_arrow _ rest left _ colon (line.nothing arrow word mark none) split is us there =
     let same : colon ≡ arrow = cc in
-    absurd (both_ways (is_mark (codes "->") colon) (other_mark (codes ":") (codes "->") colon refl is) (subst (λ (t : Token). IsTrue (is_mark (codes "->") t)) (sym same) mark))
+    absurd (both_ways (is_symbol (codes "->") colon) (other_mark (codes ":") (codes "->") colon refl is) (subst (λ (t : Token). IsTrue (is_symbol (codes "->") t)) (sym same) mark))
 no_arrow _ rest left _ colon (line.something arrow ts e mark spelled) split is us there =
     let same : colon ≡ arrow = cc in
-    absurd (both_ways (is_mark (codes "->") colon) (other_mark (codes ":") (codes "->") colon refl is) (subst (λ (t : Token). IsTrue (is_mark (codes "->") t)) (sym same) mark))
+    absurd (both_ways (is_symbol (codes "->") colon) (other_mark (codes ":") (codes "->") colon refl is) (subst (λ (t : Token). IsTrue (is_symbol (codes "->") t)) (sym same) mark))
 
 -- `None` begins no expression
-no_none : (ts rest : List Token) → IsTrue (begins_with opens ts) → IsNotThere (is_word (codes "None")) (ts ++ rest)
+no_none : (ts rest : List Token) → IsTrue (begins_with opens ts) → IsNotFirst (is_word (codes "None")) (ts ++ rest)
 no_none [] rest begun = absurd (false≢true begun)
 no_none (t ∷ ts) rest begun = false_from_ne_true _ (λ is. both_ways (opens t) (none_opens t is) begun)
 
@@ -181,11 +181,11 @@ one_mark name other also = go (name ∷ []) other also refl where
   go _ _ (header.mark one is) front = let same : one ≡ name = cc in ap (λ (t : Token). leaf.Mark t.text) same
   go _ _ (header.guard word us vs e is opens_it inner) front = absurd (no_guard us vs opens_it cc)
 
-one_guard : (ts : List Token) (closing : Token) (e : Expr) → IsExpression ts e → IsTrue (is_mark (codes ")") closing) → (other : Expr) → IsGuard (ts ++ closing ∷ []) other → ◌≡◌ {A = Option Expr} (Some e) (Some other)
+one_guard : (ts : List Token) (closing : Token) (e : Expr) → IsExpression ts e → IsTrue (is_symbol (codes ")") closing) → (other : Expr) → IsGuard (ts ++ closing ∷ []) other → ◌≡◌ {A = Option Expr} (Some e) (Some other)
 one_guard ts closing e spelled is other found =
     ap Some (sym (only_expression_spelled ts (closing ∷ []) e spelled (ends_parenthesis closing is) other (found.0 ∷ []) found.2 (ends_parenthesis found.0 found.1)).0)
 
--- no header begins with a word or a mark with which a simple statement begins
+-- no header begins with a word or a symbol with which a simple statement begins
 one_branch : (ts : List Token) (s : Stmt) → IsTrue (begins_with opens_simple ts) → SpellsBranch ts s → SpellsSimple ts s
 one_branch _ _ begun (header.if_branch word ts condition body is inner) = absurd (both_ways (opens_simple word) (no_simple_if word is) begun)
 one_branch _ _ begun (header.elif_branch word ts condition body is inner) = absurd (both_ways (opens_simple word) (no_simple_elif word is) begun)
@@ -196,16 +196,16 @@ simple_line : (ts : List Token) (s : Stmt) → IsTrue (begins_with opens_simple 
 simple_line [] s begun spelled = absurd (false≢true begun)
 simple_line (t ∷ ts) s begun spelled =
     let never = λ (test : Token → Bool) (no : IsTrue (test t) → opens_simple t ≡ false). false_from_ne_true (test t) (λ is. both_ways (opens_simple t) (no is) begun) in
-    one_branch (t ∷ ts) s begun (branch_only (t ∷ ts) ts t s refl (never (is_mark (codes "@")) (no_simple_at t)) (never (is_word (codes "from")) (no_simple_from t)) (never (is_word (codes "class")) (no_simple_class t)) (never (is_word (codes "def")) (no_simple_def t)) (never (is_word (codes "for")) (no_simple_for t)) spelled)
+    one_branch (t ∷ ts) s begun (branch_only (t ∷ ts) ts t s refl (never (is_symbol (codes "@")) (no_simple_at t)) (never (is_word (codes "from")) (no_simple_from t)) (never (is_word (codes "class")) (no_simple_class t)) (never (is_word (codes "def")) (no_simple_def t)) (never (is_word (codes "for")) (no_simple_for t)) spelled)
 
--- where `if`, `elif` or `else` stands first
+-- if `if`, `elif` or `else` comes first
 branch_line : (bytes : List ℕ) (word : Token) (ts : List Token) (s : Stmt) → bytes_eq bytes (codes "from") ≡ false → bytes_eq bytes (codes "class") ≡ false → bytes_eq bytes (codes "def") ≡ false → bytes_eq bytes (codes "for") ≡ false
     → IsTrue (is_word bytes word) → SpellsLine (word ∷ ts) s → SpellsBranch (word ∷ ts) s
 branch_line bytes word ts s no_from no_class no_def no_for is spelled =
     branch_only (word ∷ ts) ts word s refl (word_no_mark bytes (codes "@") word is) (other_word bytes (codes "from") word no_from is) (other_word bytes (codes "class") word no_class is) (other_word bytes (codes "def") word no_def is) (other_word bytes (codes "for") word no_for is) spelled
 
-one_definition : (name opening closing : Token) (ts us vs : List Token) (has_self : Bool) (ps : List Par) (result : Option Expr) (body : Option Stmt) → IsTrue (is_mark (codes "(") opening) → SpellsSignature ts has_self ps
-    → IsTrue (is_mark (codes ")") closing) → SpellsResult us result → SpellsEnd vs body → (other : Stmt) → SpellsDefinition (name ∷ opening ∷ (ts ++ closing ∷ (us ++ vs))) other → other ≡ stmt.Def name.text has_self ps result body
+one_definition : (name opening closing : Token) (ts us vs : List Token) (has_self : Bool) (ps : List Par) (result : Option Expr) (body : Option Stmt) → IsTrue (is_symbol (codes "(") opening) → SpellsSignature ts has_self ps
+    → IsTrue (is_symbol (codes ")") closing) → SpellsResult us result → SpellsEnd vs body → (other : Stmt) → SpellsDefinition (name ∷ opening ∷ (ts ++ closing ∷ (us ++ vs))) other → other ≡ stmt.Def name.text has_self ps result body
 one_definition name opening closing ts us vs has_self ps result body is_open signature is_close result_is ends other also =
     let rest = closing ∷ (us ++ vs) in
     let behind = ts ++ rest in

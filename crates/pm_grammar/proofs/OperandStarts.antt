@@ -1,4 +1,4 @@
--- With which tokens an operand begins: a sign begins none of `**`, and `not` none that signs may stand before.
+-- With which tokens an operand begins: a sign begins none of `**`, and `not` none that may have signs before it.
 use Rattle.std.proofs.Common.{◌≡◌, ◌≤◌, ◌++◌, ℕ, Bool, true, false, if◌then◌else◌, IsTrue, List, [], ◌∷◌, codes, Option, Some, refl, ap, arith}
 use Rattle.std.proofs.lemmas.Bool.{both_ways, false_from_ne_true, false≢true}
 use Rattle.pm_syn.specs.declared.expression.Expr.{Expr}
@@ -7,14 +7,14 @@ use Rattle.pm_syn.specs.declared.token.Token.{Token}
 use Rattle.pm_syn.specs.declared.token.TokenKind.TheVariants as kind
 use Rattle.pm_grammar.specs.Expressions.{Spells}
 use Rattle.pm_grammar.specs.Expressions as spells
-use Rattle.pm_grammar.specs.Fronts.{begins_with}
+use Rattle.pm_grammar.specs.Prefixes.{begins_with}
 use Rattle.pm_grammar.specs.Levels.{rank, sign_of, tighter}
-use Rattle.pm_grammar.specs.Marks.{is_mark, is_name, is_word}
+use Rattle.pm_grammar.specs.Tokens.{is_symbol, is_name, is_word}
 use Rattle.pm_grammar.specs.declared.level.Level.{Level}
 use Rattle.pm_grammar.specs.declared.level.Level.TheVariants as level
 use Rattle.pm_grammar.proofs.ExpressionStarts.{opens, opens_expression, starts, starts_bracket, starts_false, starts_name, starts_number, starts_parenthesis, starts_true}
 use Rattle.pm_grammar.proofs.LevelRanks.{groups_below, tighter_within}
-use Rattle.pm_grammar.proofs.OneMark.{mark_no_word, no_name_of_word, not_is_keyword, other_word}
+use Rattle.pm_grammar.proofs.OneSymbol.{mark_no_word, no_name_of_word, not_is_keyword, other_word}
 use Rattle.pm_grammar.proofs.TokenTexts.{by_mark, like}
 
 -- the tokens begin with one that passes the test
@@ -38,9 +38,9 @@ by_choice P false here op other is then_so otherwise = otherwise is
 -- what holds of the three signs holds of each sign
 by_sign : (P : Token → Type 0) (t : Token) (op : UnaryOp) → sign_of t ≡ Some op → P (like kind.Op (codes "-") t) → P (like kind.Op (codes "+") t) → P (like kind.Op (codes "~") t) → P t
 by_sign P t op is minus plus tilde =
-    by_choice (P t) (is_mark (codes "-") t) _ op _ is (λ mark. by_mark (codes "-") t P mark minus)
-    (λ is. by_choice (P t) (is_mark (codes "+") t) _ op _ is (λ mark. by_mark (codes "+") t P mark plus)
-    (λ is. by_choice (P t) (is_mark (codes "~") t) _ op _ is (λ mark. by_mark (codes "~") t P mark tilde) (λ is. cc)))
+    by_choice (P t) (is_symbol (codes "-") t) _ op _ is (λ mark. by_mark (codes "-") t P mark minus)
+    (λ is. by_choice (P t) (is_symbol (codes "+") t) _ op _ is (λ mark. by_mark (codes "+") t P mark plus)
+    (λ is. by_choice (P t) (is_symbol (codes "~") t) _ op _ is (λ mark. by_mark (codes "~") t P mark tilde) (λ is. cc)))
 
 -- a sign begins no atom
 pub sign_starts : (t : Token) (op : UnaryOp) → sign_of t ≡ Some op → starts t ≡ false
@@ -69,7 +69,7 @@ begun_tight _ _ _ at (spells.each ts us opening for_word closing e name bounds i
 
 -- ---- `not` begins no operand with signs
 
--- a token stands first that isn't `not`
+-- a token comes first that isn't `not`
 pub record IsPositive (ts : List Token) : Type 0 where
   pub first : Token
   pub behind : List Token

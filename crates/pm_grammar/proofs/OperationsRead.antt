@@ -7,10 +7,10 @@ use Rattle.pm_syn.specs.declared.expression.Expr.TheViews as expr
 use Rattle.pm_syn.specs.declared.expression.UnaryOp.TheVariants as unary
 use Rattle.pm_syn.specs.declared.token.Token.{Token}
 use Rattle.pm_grammar.specs.Expressions.{Spells, comparison, grouped_left, negation}
-use Rattle.pm_grammar.specs.Fronts.{IsBehind, IsNotThere}
+use Rattle.pm_grammar.specs.Prefixes.{IsAfter, IsNotFirst}
 use Rattle.pm_grammar.specs.Levels.{groups_left, operator_at, rank, tighter}
-use Rattle.pm_grammar.specs.Marks.{is_word}
-use Rattle.pm_grammar.specs.Operations.{Chain, GoesOnFrom, IsNextOperator, IsNoOperator, goes_on}
+use Rattle.pm_grammar.specs.Tokens.{is_word}
+use Rattle.pm_grammar.specs.Operations.{Chain, ContinuesFrom, IsNextOperator, IsNoOperator, continues_by}
 use Rattle.pm_grammar.specs.Operations.Chain.{go, stay}
 use Rattle.pm_grammar.specs.Reading.{Begins, Ends, IsOnly, continues}
 use Rattle.pm_grammar.specs.declared.level.Level.{Level}
@@ -23,7 +23,7 @@ use Rattle.pm_grammar.proofs.LevelRanks.{groups_below, rank-tighter, same_level}
 use Rattle.pm_grammar.proofs.OperatorLevels.{goes_at, one_level}
 
 -- the operation with one more operand
-spelled_next : (l bound at : Level) (ts us : List Token) (sign : Token) (op : BinaryOp) (left right : Expr) → rank bound ≤ 11 → IsTrue (goes_on l bound at) → operator_at at sign ≡ Some op → Spells bound ts left → Spells (tighter at) us right → Spells at (ts ++ sign ∷ us) (expr.Binary op left right)
+spelled_next : (l bound at : Level) (ts us : List Token) (sign : Token) (op : BinaryOp) (left right : Expr) → rank bound ≤ 11 → IsTrue (continues_by l bound at) → operator_at at sign ≡ Some op → Spells bound ts left → Spells (tighter at) us right → Spells at (ts ++ sign ∷ us) (expr.Binary op left right)
 spelled_next l bound level.Conditional ts us sign op left right within goes is spelled behind = cc
 spelled_next l bound level.Disjunction ts us sign op left right within goes is spelled behind =
     grouped_left level.Disjunction ts us sign op left right refl (spelled_looser level.Disjunction bound ts left (goes_within l bound level.Disjunction goes) spelled) is behind
@@ -58,7 +58,7 @@ begins_next l bound all rest tail after tree right operator within begins next b
       spelled_next l bound operator.level begins.0 behind.0 next.first operator.op tree right within next.goes next.is begins.2 behind.2,
     )
 
--- an operand stands behind the operator, and what goes on behind it
+-- an operand comes after the operator, and what continues after it
 pub record GoesOnBy (l at : Level) (op : BinaryOp) (tree : Expr) (tail : List Token) (e : Expr) (rest : List Token) : Type 0 where
   pub right : Expr
   pub us : List Token
@@ -78,7 +78,7 @@ chain_next l bound at tree e op first tail ts rest within is reach front ends (g
     let same_op : other ≡ op = cc in
     let below : rank there ≤ rank bound = goes_within l bound there goes in
     let next = rank-tighter there (omega (arith, below, within)) in
-    let stops : (k : Level) → IsTrue (goes_on l there k) → rank k < rank (tighter there) = λ k went. omega (arith, next, goes_within l there k went) in
+    let stops : (k : Level) → IsTrue (continues_by l there k) → rank k < rank (tighter there) = λ k went. omega (arith, next, goes_within l there k went) in
     let went : GoesOnBy l there other tree tail e rest = record {
       right = right;
       us = vs;
@@ -88,21 +88,21 @@ chain_next l bound at tree e op first tail ts rest within is reach front ends (g
     } in
     subst (λ (k : Level). GoesOnBy l k op tree tail e rest) same (subst (λ (o : BinaryOp). GoesOnBy l there o tree tail e rest) same_op went)
 
--- each reading goes on by the operator
-goes_by : (l bound : Level) (all rest tail : List Token) (tree : Expr) (operator : Operator) → rank bound ≤ 11 → GoesOnFrom l all (Some ((tree, bound), rest)) → IsNextOperator l bound rest operator tail → (e : Expr) (after : List Token) → Begins (Spells l) all e after → Ends l after → GoesOnBy l operator.level operator.op tree tail e after
+-- each reading continues by the operator
+goes_by : (l bound : Level) (all rest tail : List Token) (tree : Expr) (operator : Operator) → rank bound ≤ 11 → ContinuesFrom l all (Some ((tree, bound), rest)) → IsNextOperator l bound rest operator tail → (e : Expr) (after : List Token) → Begins (Spells l) all e after → Ends l after → GoesOnBy l operator.level operator.op tree tail e after
 goes_by l bound all rest tail tree operator within goes next e after begins ends =
     let went = goes e after begins ends in
     chain_next l bound operator.level tree e operator.op next.first tail went.0 after within next.is (goes_parts l bound operator.level next.goes).0 (sym next.front ∙ went.1) ends went.2
 
 -- one more operand was read
-pub goes_next : (l bound : Level) (all rest tail after : List Token) (tree right : Expr) (operator : Operator) → rank bound ≤ 11 → GoesOnFrom l all (Some ((tree, bound), rest)) → IsNextOperator l bound rest operator tail → IsOnly (tighter operator.level) tail (Some (right, after)) → GoesOnFrom l all (Some ((expr.Binary operator.op tree right, operator.level), after))
+pub goes_next : (l bound : Level) (all rest tail after : List Token) (tree right : Expr) (operator : Operator) → rank bound ≤ 11 → ContinuesFrom l all (Some ((tree, bound), rest)) → IsNextOperator l bound rest operator tail → IsOnly (tighter operator.level) tail (Some (right, after)) → ContinuesFrom l all (Some ((expr.Binary operator.op tree right, operator.level), after))
 goes_next l bound all rest tail after tree right operator within goes next only = λ e r begins ends.
     let went = goes_by l bound all rest tail tree operator within goes next e r begins ends in
     let read = only went.right (went.us ++ r) went.begins went.ends in
     (went.us, sym read.1, subst (λ (c : Expr). Chain operator.level l (expr.Binary operator.op tree c) went.us e) read.0 went.chain)
 
--- no operand stands behind the operator
-pub no_next : (l bound : Level) (all rest tail : List Token) (tree : Expr) (operator : Operator) → rank bound ≤ 11 → GoesOnFrom l all (Some ((tree, bound), rest)) → IsNextOperator l bound rest operator tail → IsOnly (tighter operator.level) tail None → IsOnly l all None
+-- no operand comes after the operator
+pub no_next : (l bound : Level) (all rest tail : List Token) (tree : Expr) (operator : Operator) → rank bound ≤ 11 → ContinuesFrom l all (Some ((tree, bound), rest)) → IsNextOperator l bound rest operator tail → IsOnly (tighter operator.level) tail None → IsOnly l all None
 no_next l bound all rest tail tree operator within goes next only = λ e r begins ends.
     let went = goes_by l bound all rest tail tree operator within goes next e r begins ends in
     only went.right (went.us ++ r) went.begins went.ends
@@ -111,8 +111,8 @@ chain_done : (l bound : Level) (tree e : Expr) (all ts rest : List Token) → al
 chain_done l bound tree e all ts rest front none (stay _ _ _) = (refl, sym front)
 chain_done l bound tree e all ts rest front none (go _ _ at _ _ _ _ _ _ op goes is _ _) = absurd (subst (λ (xs : List Token). IsNoOperator l bound xs) front none at op is goes)
 
--- no operator goes on
-pub only_done : (l bound : Level) (all rest : List Token) (tree : Expr) → GoesOnFrom l all (Some ((tree, bound), rest)) → IsNoOperator l bound rest → IsOnly l all (Some (tree, rest))
+-- no operator continues
+pub only_done : (l bound : Level) (all rest : List Token) (tree : Expr) → ContinuesFrom l all (Some ((tree, bound), rest)) → IsNoOperator l bound rest → IsOnly l all (Some (tree, rest))
 only_done l bound all rest tree goes none = λ e r begins ends.
     let went = goes e r begins ends in
     chain_done l bound tree e rest went.0 r went.1 none went.2
@@ -125,10 +125,10 @@ pub record GoesOnSigned (l : Level) (all : List Token) (e : Expr) (rest : List T
   pub ends : Ends level.Unary (us ++ rest)
   pub chain : Chain level.Unary l operand us e
 
-goes_signed : (l : Level) (all : List Token) (e : Expr) (rest : List Token) → 1 ≤ rank l → rank l ≤ 11 → (rank l ≤ 3 → IsNotThere (is_word (codes "not")) all) → Begins (Spells l) all e rest → Ends l rest → GoesOnSigned l all e rest
+goes_signed : (l : Level) (all : List Token) (e : Expr) (rest : List Token) → 1 ≤ rank l → rank l ≤ 11 → (rank l ≤ 3 → IsNotFirst (is_word (codes "not")) all) → Begins (Spells l) all e rest → Ends l rest → GoesOnSigned l all e rest
 goes_signed l all e rest loosest tightest none begins ends = ⊎_elim
     (λ (from : FromSigned l begins.0 e).
-    let stops : (at : Level) → IsTrue (goes_on l level.Unary at) → rank at < 11 = λ at goes. ⊎_elim (λ below. below) (λ same. groups_below at same.1) (goes_parts l level.Unary at goes).1 in
+    let stops : (at : Level) → IsTrue (continues_by l level.Unary at) → rank at < 11 = λ at goes. ⊎_elim (λ below. below) (λ same. groups_below at same.1) (goes_parts l level.Unary at goes).1 in
     record {
       operand = from.operand;
       us = from.vs;
@@ -138,7 +138,7 @@ goes_signed l all e rest loosest tightest none begins ends = ⊎_elim
     })
     (λ (from : FromNegation l begins.0 e).
     let front : all ≡ from.word ∷ ((from.us ++ from.vs) ++ rest) = begins.1 ∙ ap (λ (xs : List Token). xs ++ rest) from.front in
-    absurd (both_ways (is_word (codes "not") from.word) (subst (λ (xs : List Token). IsNotThere (is_word (codes "not")) xs) front (none from.loose)) from.is_not))
+    absurd (both_ways (is_word (codes "not") from.word) (subst (λ (xs : List Token). IsNotFirst (is_word (codes "not")) xs) front (none from.loose)) from.is_not))
     (from_operand l begins.0 e begins.2 loosest tightest)
 
 -- negations don't group
@@ -153,7 +153,7 @@ pub record GoesOnNegated (l : Level) (behind : List Token) (e : Expr) (rest : Li
   pub ends : Ends level.Negation (us ++ rest)
   pub chain : Chain level.Negation l (expr.Unary unary.Not operand) us e
 
-goes_negated : (l : Level) (all behind : List Token) (e : Expr) (rest : List Token) → 1 ≤ rank l → rank l ≤ 11 → IsBehind (is_word (codes "not")) all behind → Begins (Spells l) all e rest → Ends l rest → GoesOnNegated l behind e rest
+goes_negated : (l : Level) (all behind : List Token) (e : Expr) (rest : List Token) → 1 ≤ rank l → rank l ≤ 11 → IsAfter (is_word (codes "not")) all behind → Begins (Spells l) all e rest → Ends l rest → GoesOnNegated l behind e rest
 goes_negated l all behind e rest loosest tightest word begins ends = ⊎_elim
     (λ (from : FromSigned l begins.0 e).
     let begun = positive level.Unary from.us from.operand from.spelled (omega arith) in
@@ -163,7 +163,7 @@ goes_negated l all behind e rest loosest tightest word begins ends = ⊎_elim
     (λ (from : FromNegation l begins.0 e).
     let front : word.0 ∷ behind ≡ from.word ∷ ((from.us ++ from.vs) ++ rest) = sym word.1 ∙ begins.1 ∙ ap (λ (xs : List Token). xs ++ rest) from.front in
     let same : behind ≡ (from.us ++ from.vs) ++ rest = cc in
-    let stops : (at : Level) → IsTrue (goes_on l level.Negation at) → rank at < 3 = λ at goes. ⊎_elim (λ below. below) (λ same. absurd (not_negation at same.0 same.1)) (goes_parts l level.Negation at goes).1 in
+    let stops : (at : Level) → IsTrue (continues_by l level.Negation at) → rank at < 3 = λ at goes. ⊎_elim (λ below. below) (λ same. absurd (not_negation at same.0 same.1)) (goes_parts l level.Negation at goes).1 in
     record {
       operand = from.operand;
       us = from.vs;
@@ -174,30 +174,30 @@ goes_negated l all behind e rest loosest tightest word begins ends = ⊎_elim
     (from_operand l begins.0 e begins.2 loosest tightest)
 
 -- an operand with signs was read
-pub goes_first : (l : Level) (all rest : List Token) (operand : Expr) → 1 ≤ rank l → rank l ≤ 11 → (rank l ≤ 3 → IsNotThere (is_word (codes "not")) all) → IsOnly level.Unary all (Some (operand, rest)) → GoesOnFrom l all (Some ((operand, level.Unary), rest))
+pub goes_first : (l : Level) (all rest : List Token) (operand : Expr) → 1 ≤ rank l → rank l ≤ 11 → (rank l ≤ 3 → IsNotFirst (is_word (codes "not")) all) → IsOnly level.Unary all (Some (operand, rest)) → ContinuesFrom l all (Some ((operand, level.Unary), rest))
 goes_first l all rest operand loosest tightest none only = λ e r begins ends.
     let went = goes_signed l all e r loosest tightest none begins ends in
     let read = only went.operand (went.us ++ r) went.begins went.ends in
     (went.us, sym read.1, subst (λ (c : Expr). Chain level.Unary l c went.us e) read.0 went.chain)
 
-pub no_first : (l : Level) (all : List Token) → 1 ≤ rank l → rank l ≤ 11 → (rank l ≤ 3 → IsNotThere (is_word (codes "not")) all) → IsOnly level.Unary all None → GoesOnFrom l all None
+pub no_first : (l : Level) (all : List Token) → 1 ≤ rank l → rank l ≤ 11 → (rank l ≤ 3 → IsNotFirst (is_word (codes "not")) all) → IsOnly level.Unary all None → ContinuesFrom l all None
 no_first l all loosest tightest none only = λ e r begins ends.
     let went = goes_signed l all e r loosest tightest none begins ends in
     only went.operand (went.us ++ r) went.begins went.ends
 
 -- a negation was read
-pub goes_not : (l : Level) (all behind rest : List Token) (operand : Expr) → 1 ≤ rank l → rank l ≤ 11 → IsBehind (is_word (codes "not")) all behind → IsOnly level.Negation behind (Some (operand, rest)) → GoesOnFrom l all (Some ((expr.Unary unary.Not operand, level.Negation), rest))
+pub goes_not : (l : Level) (all behind rest : List Token) (operand : Expr) → 1 ≤ rank l → rank l ≤ 11 → IsAfter (is_word (codes "not")) all behind → IsOnly level.Negation behind (Some (operand, rest)) → ContinuesFrom l all (Some ((expr.Unary unary.Not operand, level.Negation), rest))
 goes_not l all behind rest operand loosest tightest word only = λ e r begins ends.
     let went = goes_negated l all behind e r loosest tightest word begins ends in
     let read = only went.operand (went.us ++ r) went.begins went.ends in
     (went.us, sym read.1, subst (λ (c : Expr). Chain level.Negation l (expr.Unary unary.Not c) went.us e) read.0 went.chain)
 
-pub no_not : (l : Level) (all behind : List Token) → 1 ≤ rank l → rank l ≤ 11 → IsBehind (is_word (codes "not")) all behind → IsOnly level.Negation behind None → GoesOnFrom l all None
+pub no_not : (l : Level) (all behind : List Token) → 1 ≤ rank l → rank l ≤ 11 → IsAfter (is_word (codes "not")) all behind → IsOnly level.Negation behind None → ContinuesFrom l all None
 no_not l all behind loosest tightest word only = λ e r begins ends.
     let went = goes_negated l all behind e r loosest tightest word begins ends in
     only went.operand (went.us ++ r) went.begins went.ends
 
-pub begins_not : (all behind rest : List Token) (operand : Expr) → IsBehind (is_word (codes "not")) all behind → Begins (Spells level.Negation) behind operand rest → Begins (Spells level.Negation) all (expr.Unary unary.Not operand) rest
+pub begins_not : (all behind rest : List Token) (operand : Expr) → IsAfter (is_word (codes "not")) all behind → Begins (Spells level.Negation) behind operand rest → Begins (Spells level.Negation) all (expr.Unary unary.Not operand) rest
 begins_not all behind rest operand word begins =
     (word.0 ∷ begins.0, word.1 ∙ ap (λ (xs : List Token). word.0 ∷ xs) begins.1, negation begins.0 word.0 operand word.2 begins.2)
 

@@ -9,13 +9,13 @@ use Rattle.pm_syn.specs.declared.expression.Expr.{Expr}
 use Rattle.pm_syn.specs.declared.expression.Expr.TheViews as expr
 use Rattle.pm_syn.specs.declared.token.Token.{Token}
 use Rattle.pm_grammar.specs.Expressions.{Spells}
-use Rattle.pm_grammar.specs.Fronts.{IsBehind, IsNotThere}
+use Rattle.pm_grammar.specs.Prefixes.{IsAfter, IsNotFirst}
 use Rattle.pm_grammar.specs.Levels.{operator_at, sign_of}
-use Rattle.pm_grammar.specs.Marks.{is_mark}
+use Rattle.pm_grammar.specs.Tokens.{is_symbol}
 use Rattle.pm_grammar.specs.Reading.{Begins, Ends, IsOnly, is_suffix}
 use Rattle.pm_grammar.specs.declared.level.Level.TheVariants as level
 use Rattle.pm_grammar.proofs.ExpressionStarts.{starts}
-use Rattle.pm_grammar.proofs.OneMark.{power_ends_base}
+use Rattle.pm_grammar.proofs.OneSymbol.{power_ends_base}
 use Rattle.pm_grammar.proofs.OperandStarts.{begun_tight, sign_starts}
 use Rattle.pm_grammar.proofs.TokenTexts.{of_mark}
 use Rattle.pm_grammar.proofs.Parts.{behind_first, not_there}
@@ -23,13 +23,13 @@ use Rattle.pm_grammar.proofs.Parts.{behind_first, not_there}
 -- ---- `**`
 
 -- the operator is `**`
-power_operator : (sign : Token) (op : BinaryOp) → operator_at level.Power sign ≡ Some op → (op ≡ binary.Pow) × IsTrue (is_mark (codes "**") sign)
-power_operator sign op is = go (is_mark (codes "**") sign) refl is where
-  go : (same : Bool) → is_mark (codes "**") sign ≡ same → (if same then Some binary.Pow else None) ≡ Some op → (op ≡ binary.Pow) × IsTrue (is_mark (codes "**") sign)
+power_operator : (sign : Token) (op : BinaryOp) → operator_at level.Power sign ≡ Some op → (op ≡ binary.Pow) × IsTrue (is_symbol (codes "**") sign)
+power_operator sign op is = go (is_symbol (codes "**") sign) refl is where
+  go : (same : Bool) → is_symbol (codes "**") sign ≡ same → (if same then Some binary.Pow else None) ≡ Some op → (op ≡ binary.Pow) × IsTrue (is_symbol (codes "**") sign)
   go true mark one = (cc, mark)
   go false mark one = cc
 
-mark_operator : (sign : Token) → IsTrue (is_mark (codes "**") sign) → operator_at level.Power sign ≡ Some binary.Pow
+mark_operator : (sign : Token) → IsTrue (is_symbol (codes "**") sign) → operator_at level.Power sign ≡ Some binary.Pow
 mark_operator sign is = of_mark (codes "**") sign (operator_at level.Power) (Some binary.Pow) is refl
 
 -- a base, `**` and an exponent
@@ -42,7 +42,7 @@ record IsPower (ts : List Token) (e : Expr) : Type 0 where
   pub split : ts ≡ front ++ sign ∷ behind
   pub made : e ≡ expr.Binary binary.Pow base exponent
   pub base_spelled : Spells level.Postfix front base
-  pub mark : IsTrue (is_mark (codes "**") sign)
+  pub mark : IsTrue (is_symbol (codes "**") sign)
   pub exponent_spelled : Spells level.Unary behind exponent
 
 power_is : (ts : List Token) (e : Expr) → Spells level.Power ts e → Spells level.Postfix ts e ⊎ IsPower ts e
@@ -63,7 +63,7 @@ power_is _ _ (Spells.power ts us sign op base exponent s is t) =
       exponent_spelled = t;
     })
 
--- where an operand with an exponent ends, so does one without
+-- if an operand with an exponent ends, so does one without
 ends_base : (rest : List Token) → Ends level.Power rest → Ends level.Postfix rest
 ends_base [] ends = tt
 ends_base (t ∷ rest) ends = (or_parts (is_some (operator_at level.Power t)) (is_suffix t) ends).1
@@ -78,19 +78,19 @@ ends_power [] ends = tt
 ends_power (t ∷ rest) ends = ends
 
 -- no operand ends before `**`
-no_end : (rest tail left : List Token) → IsBehind (is_mark (codes "**")) rest tail → rest ≡ left → Ends level.Power left → ⊥
+no_end : (rest tail left : List Token) → IsAfter (is_symbol (codes "**")) rest tail → rest ≡ left → Ends level.Power left → ⊥
 no_end rest tail [] behind same ends = let there = behind.1 in cc
 no_end rest tail (t ∷ left) behind same ends =
     let there = behind.1 in
     let one : behind.0 ≡ t = cc in
     let parts = or_parts (is_some (operator_at level.Power t)) (is_suffix t) ends in
-    let op = mark_operator t (subst (λ (z : Token). IsTrue (is_mark (codes "**") z)) one behind.2) in
+    let op = mark_operator t (subst (λ (z : Token). IsTrue (is_symbol (codes "**") z)) one behind.2) in
     false≢true (sym parts.0 ∙ ap is_some op)
 
 pub begins_power : (all rest : List Token) (a : Expr) → Begins (Spells level.Postfix) all a rest → Begins (Spells level.Power) all a rest
 begins_power all rest a begins = (begins.0, begins.1, Spells.as_tight level.Power begins.0 a begins.2)
 
-pub power_found : (all rest tail after : List Token) (base exponent : Expr) → Begins (Spells level.Postfix) all base rest → IsBehind (is_mark (codes "**")) rest tail
+pub power_found : (all rest tail after : List Token) (base exponent : Expr) → Begins (Spells level.Postfix) all base rest → IsAfter (is_symbol (codes "**")) rest tail
     → Begins (Spells level.Unary) tail exponent after → Begins (Spells level.Power) all (expr.Binary binary.Pow base exponent) after
 power_found all rest tail after base exponent begins behind begins' = (
   begins.0 ++ behind.0 ∷ begins'.0,
@@ -99,7 +99,7 @@ power_found all rest tail after base exponent begins behind begins' = (
   Spells.power begins.0 begins'.0 behind.0 binary.Pow base exponent begins.2 (mark_operator behind.0 behind.2) begins'.2,
 )
 
--- what is read before `**`, and behind it
+-- what is read before `**`, and after it
 record PowerReads (all : List Token) (e : Expr) (left : List Token) : Type 0 where
   pub sign : Token
   pub behind : List Token
@@ -108,7 +108,7 @@ record PowerReads (all : List Token) (e : Expr) (left : List Token) : Type 0 whe
   pub made : e ≡ expr.Binary binary.Pow base exponent
   pub base_begins : Begins (Spells level.Postfix) all base (sign ∷ behind)
   pub base_ends : Ends level.Postfix (sign ∷ behind)
-  pub mark : IsTrue (is_mark (codes "**") sign)
+  pub mark : IsTrue (is_symbol (codes "**") sign)
   pub exponent_begins : Begins (Spells level.Unary) behind exponent left
 
 power_reads : (all left : List Token) (e : Expr) → Begins (Spells level.Power) all e left → Begins (Spells level.Postfix) all e left ⊎ PowerReads all e left
@@ -133,26 +133,26 @@ no_base all only e left begins ends = elim (power_reads all left e begins) [
   | inr power ↦ only power.base (power.sign ∷ power.behind) power.base_begins power.base_ends
 ]
 
-pub only_base : (all rest : List Token) (a : Expr) → IsOnly level.Postfix all (Some (a, rest)) → IsNotThere (is_mark (codes "**")) rest → IsOnly level.Power all (Some (a, rest))
+pub only_base : (all rest : List Token) (a : Expr) → IsOnly level.Postfix all (Some (a, rest)) → IsNotFirst (is_symbol (codes "**")) rest → IsOnly level.Power all (Some (a, rest))
 only_base all rest a only apart e left begins ends = elim (power_reads all left e begins) [
   | inl postfix ↦ only e left postfix (ends_base left ends)
   | inr power ↦
       let was = only power.base (power.sign ∷ power.behind) power.base_begins power.base_ends in
-      absurd (not_there (is_mark (codes "**")) rest power.behind power.sign apart (sym was.1) power.mark)
+      absurd (not_there (is_symbol (codes "**")) rest power.behind power.sign apart (sym was.1) power.mark)
 ]
 
-pub no_exponent : (all rest tail : List Token) (a : Expr) → IsOnly level.Postfix all (Some (a, rest)) → IsBehind (is_mark (codes "**")) rest tail → IsOnly level.Unary tail None → IsOnly level.Power all None
+pub no_exponent : (all rest tail : List Token) (a : Expr) → IsOnly level.Postfix all (Some (a, rest)) → IsAfter (is_symbol (codes "**")) rest tail → IsOnly level.Unary tail None → IsOnly level.Power all None
 no_exponent all rest tail a only behind only' e left begins ends = elim (power_reads all left e begins) [
   | inl postfix ↦
       let was = only e left postfix (ends_base left ends) in
       no_end rest tail left behind (sym was.1) ends
   | inr power ↦
       let was = only power.base (power.sign ∷ power.behind) power.base_begins power.base_ends in
-      let same = behind_first (is_mark (codes "**")) rest tail power.behind power.sign behind (sym was.1) in
+      let same = behind_first (is_symbol (codes "**")) rest tail power.behind power.sign behind (sym was.1) in
       only' power.exponent left (subst (λ (us : List Token). Begins (Spells level.Unary) us power.exponent left) (sym same) power.exponent_begins) (ends_unary left ends)
 ]
 
-pub only_power : (all rest tail after : List Token) (a b : Expr) → IsOnly level.Postfix all (Some (a, rest)) → IsBehind (is_mark (codes "**")) rest tail
+pub only_power : (all rest tail after : List Token) (a b : Expr) → IsOnly level.Postfix all (Some (a, rest)) → IsAfter (is_symbol (codes "**")) rest tail
     → IsOnly level.Unary tail (Some (b, after)) → IsOnly level.Power all (Some (expr.Binary binary.Pow a b, after))
 only_power all rest tail after a b only behind only' e left begins ends = elim (power_reads all left e begins) [
   | inl postfix ↦
@@ -160,7 +160,7 @@ only_power all rest tail after a b only behind only' e left begins ends = elim (
       absurd (no_end rest tail left behind (sym was.1) ends)
   | inr power ↦
       let was = only power.base (power.sign ∷ power.behind) power.base_begins power.base_ends in
-      let same = behind_first (is_mark (codes "**")) rest tail power.behind power.sign behind (sym was.1) in
+      let same = behind_first (is_symbol (codes "**")) rest tail power.behind power.sign behind (sym was.1) in
       let was' = only' power.exponent left (subst (λ (us : List Token). Begins (Spells level.Unary) us power.exponent left) (sym same) power.exponent_begins) (ends_unary left ends) in
       (power.made ∙ ap (λ (one : Expr). expr.Binary binary.Pow one power.exponent) was.0 ∙ ap (λ (one : Expr). expr.Binary binary.Pow a one) was'.0, was'.1)
 ]

@@ -5,20 +5,20 @@ use Rattle.pm_syn.specs.declared.expression.Expr.{Expr}
 use Rattle.pm_syn.specs.declared.token.Token.{Token}
 use Rattle.pm_grammar.specs.Brackets.{SpellsBounds, SpellsMore}
 use Rattle.pm_grammar.specs.Expressions.{Spells, SpellsRange, SpellsSequence}
-use Rattle.pm_grammar.specs.Fronts.{IsBehind, IsNotThere}
-use Rattle.pm_grammar.specs.Marks.{is_mark, is_name, is_word}
+use Rattle.pm_grammar.specs.Prefixes.{IsAfter, IsNotFirst}
+use Rattle.pm_grammar.specs.Tokens.{is_symbol, is_name, is_word}
 use Rattle.pm_grammar.specs.Reading.{Begins, IsOnly, IsOnlyBefore, IsOnlyBeginning}
 use Rattle.pm_grammar.specs.declared.level.Level.TheVariants as level
-use Rattle.pm_grammar.proofs.OneMark.{ends_parenthesis, parenthesis_no_comma}
+use Rattle.pm_grammar.proofs.OneSymbol.{ends_parenthesis, parenthesis_no_comma}
 use Rattle.pm_grammar.proofs.Parts.{Closed, front_closed, none_closed, only_closed, unclosed}
 use Rattle.pm_grammar.proofs.Sequences.{more_done, more_ends, more_on, sequence_is}
 
 -- ---- the arguments of `range`
 
--- each sequence up to the closing parenthesis goes on from these
+-- each sequence up to the closing parenthesis continues from these
 abbrev pub GoesOnBounds : List Token → List Expr → List Token → Type 0
 GoesOnBounds tokens es rest =
-    (all : List Expr) (closing : Token) (left : List Token) → IsTrue (is_mark (codes ")") closing) → Begins SpellsBounds tokens all (closing ∷ left)
+    (all : List Expr) (closing : Token) (left : List Token) → IsTrue (is_symbol (codes ")") closing) → Begins SpellsBounds tokens all (closing ∷ left)
     → (us : List Token) × (more : List Expr) × (rest ≡ us ++ closing ∷ left) × (all ≡ es ++ more) × SpellsMore (Spells level.Conditional) false us more × (length all ≤ 3)
 
 -- the first one, and what follows it
@@ -55,8 +55,8 @@ goes_bounds tokens rest e only all closing left mark begins =
     let was = only some.first (some.behind ++ closing ∷ left) some.first_begins (more_ends false some.behind left some.others closing some.more (ends_parenthesis closing mark)) in
     (some.behind, some.others, sym was.1, some.made ∙ ap (λ (one : Expr). one ∷ some.others) was.0, some.more, some.few)
 
-next_bound : (tokens rest tail : List Token) (es : List Expr) → GoesOnBounds tokens es rest → IsBehind (is_mark (codes ",")) rest tail
-    → (all : List Expr) (closing : Token) (left : List Token) → IsTrue (is_mark (codes ")") closing) → Begins SpellsBounds tokens all (closing ∷ left)
+next_bound : (tokens rest tail : List Token) (es : List Expr) → GoesOnBounds tokens es rest → IsAfter (is_symbol (codes ",")) rest tail
+    → (all : List Expr) (closing : Token) (left : List Token) → IsTrue (is_symbol (codes ")") closing) → Begins SpellsBounds tokens all (closing ∷ left)
     → (us vs : List Token) × (e : Expr) × (more : List Expr) × (all ≡ es ++ e ∷ more) × (tail ≡ us ++ (vs ++ closing ∷ left)) × Spells level.Conditional us e
     × SpellsMore (Spells level.Conditional) false vs more × (length all ≤ 3)
 next_bound tokens rest tail es goes comma all closing left mark begins =
@@ -66,21 +66,21 @@ next_bound tokens rest tail es goes comma all closing left mark begins =
       | inr next ↦ (next.0, next.1, next.2, next.3, on.3 ∙ ap (λ (zs : List Expr). es ++ zs) next.4, next.5, next.6, next.7, on.5)
     ]
 
-pub goes_bound : (tokens rest tail after : List Token) (es : List Expr) (e : Expr) → GoesOnBounds tokens es rest → IsBehind (is_mark (codes ",")) rest tail
+pub goes_bound : (tokens rest tail after : List Token) (es : List Expr) (e : Expr) → GoesOnBounds tokens es rest → IsAfter (is_symbol (codes ",")) rest tail
     → IsOnly level.Conditional tail (Some (e, after)) → GoesOnBounds tokens (es ++ e ∷ []) after
 goes_bound tokens rest tail after es e goes comma only all closing left mark begins =
     let next = next_bound tokens rest tail es goes comma all closing left mark begins in
     let was = only next.2 (next.1 ++ closing ∷ left) (next.0, next.5, next.6) (more_ends false next.1 left next.3 closing next.7 (ends_parenthesis closing mark)) in
     (next.1, next.3, sym was.1, next.4 ∙ ap (λ (one : Expr). es ++ one ∷ next.3) was.0 ∙ sym (append_assoc es (e ∷ []) next.3), next.7, next.8)
 
-pub no_bound : (tokens rest tail : List Token) (es : List Expr) → GoesOnBounds tokens es rest → IsBehind (is_mark (codes ",")) rest tail
+pub no_bound : (tokens rest tail : List Token) (es : List Expr) → GoesOnBounds tokens es rest → IsAfter (is_symbol (codes ",")) rest tail
     → IsOnly level.Conditional tail None → IsOnlyBefore SpellsBounds (codes ")") tokens None
 no_bound tokens rest tail es goes comma only all closing left mark begins =
     let next = next_bound tokens rest tail es goes comma all closing left mark begins in
     only next.2 (next.1 ++ closing ∷ left) (next.0, next.5, next.6) (more_ends false next.1 left next.3 closing next.7 (ends_parenthesis closing mark))
 
 -- a fourth is too many
-pub too_many : (tokens rest tail : List Token) (es : List Expr) → GoesOnBounds tokens es rest → IsBehind (is_mark (codes ",")) rest tail → length es ≡ 3
+pub too_many : (tokens rest tail : List Token) (es : List Expr) → GoesOnBounds tokens es rest → IsAfter (is_symbol (codes ",")) rest tail → length es ≡ 3
     → IsOnlyBefore SpellsBounds (codes ")") tokens None
 too_many tokens rest tail es goes comma three all closing left mark begins =
     let next = next_bound tokens rest tail es goes comma all closing left mark begins in
@@ -88,7 +88,7 @@ too_many tokens rest tail es goes comma three all closing left mark begins =
     let few = next.8 in
     absurd (omega (arith, long, few, three))
 
-pub only_bounds : (tokens rest : List Token) (es : List Expr) → GoesOnBounds tokens es rest → IsNotThere (is_mark (codes ",")) rest → IsOnlyBefore SpellsBounds (codes ")") tokens (Some (es, rest))
+pub only_bounds : (tokens rest : List Token) (es : List Expr) → GoesOnBounds tokens es rest → IsNotFirst (is_symbol (codes ",")) rest → IsOnlyBefore SpellsBounds (codes ")") tokens (Some (es, rest))
 only_bounds tokens rest es goes apart all closing left mark begins =
     let on = goes all closing left mark begins in
     let last = more_done (Spells level.Conditional) false on.0 left rest on.1 closing on.4 on.2 apart in
@@ -113,9 +113,9 @@ record RangeReads (tokens : List Token) (p : List ℕ × List Expr) (left : List
   pub named : IsTrue (is_name name)
   pub is_in : IsTrue (is_word (codes "in") in_word)
   pub is_range : IsTrue (is_word (codes "range") range)
-  pub mark : IsTrue (is_mark (codes "(") opening)
+  pub mark : IsTrue (is_symbol (codes "(") opening)
   pub word : p.0 ≡ name.text
-  pub bounds : Begins (Closed (is_mark (codes ")")) SpellsBounds) tail p.1 left
+  pub bounds : Begins (Closed (is_symbol (codes ")")) SpellsBounds) tail p.1 left
 
 range_reads : (tokens left : List Token) (p : List ℕ × List Expr) → Begins SpellsRange tokens p left → RangeReads tokens p left
 range_reads tokens left p (front, split, spelled) = go front p split spelled where
@@ -144,10 +144,10 @@ pub record IsRangeFront (tokens : List Token) (name : Token) (tail : List Token)
   pub named : IsTrue (is_name name)
   pub is_in : IsTrue (is_word (codes "in") in_word)
   pub is_range : IsTrue (is_word (codes "range") range)
-  pub mark : IsTrue (is_mark (codes "(") opening)
+  pub mark : IsTrue (is_symbol (codes "(") opening)
 
-pub range_front : (tokens one two three four : List Token) (name : Token) → tokens ≡ name ∷ one → IsTrue (is_name name) → IsBehind (is_word (codes "in")) one two
-    → IsBehind (is_word (codes "range")) two three → IsBehind (is_mark (codes "(")) three four → IsRangeFront tokens name four
+pub range_front : (tokens one two three four : List Token) (name : Token) → tokens ≡ name ∷ one → IsTrue (is_name name) → IsAfter (is_word (codes "in")) one two
+    → IsAfter (is_word (codes "range")) two three → IsAfter (is_symbol (codes "(")) three four → IsRangeFront tokens name four
 range_front tokens one two three four name is named behind behind' behind'' = record {
   in_word = behind.0;
   range = behind'.0;
@@ -165,35 +165,35 @@ no_range tokens tail name front only p left begins =
     let there = r.there in
     let there' = front.there in
     let same : r.tail ≡ tail = cc in
-    none_closed SpellsBounds (is_mark (codes ")")) tail only p.1 left (subst (λ (us : List Token). Begins (Closed (is_mark (codes ")")) SpellsBounds) us p.1 left) same r.bounds)
+    none_closed SpellsBounds (is_symbol (codes ")")) tail only p.1 left (subst (λ (us : List Token). Begins (Closed (is_symbol (codes ")")) SpellsBounds) us p.1 left) same r.bounds)
 
 pub open_range : (tokens tail rest : List Token) (name : Token) (es : List Expr) → IsRangeFront tokens name tail → IsOnlyBefore SpellsBounds (codes ")") tail (Some (es, rest))
-    → IsNotThere (is_mark (codes ")")) rest → IsOnlyBeginning SpellsRange tokens None
+    → IsNotFirst (is_symbol (codes ")")) rest → IsOnlyBeginning SpellsRange tokens None
 open_range tokens tail rest name es front only apart p left begins =
     let r = range_reads tokens left p begins in
     let there = r.there in
     let there' = front.there in
     let same : r.tail ≡ tail = cc in
-    unclosed SpellsBounds (is_mark (codes ")")) tail es rest only apart p.1 left (subst (λ (us : List Token). Begins (Closed (is_mark (codes ")")) SpellsBounds) us p.1 left) same r.bounds)
+    unclosed SpellsBounds (is_symbol (codes ")")) tail es rest only apart p.1 left (subst (λ (us : List Token). Begins (Closed (is_symbol (codes ")")) SpellsBounds) us p.1 left) same r.bounds)
 
 same_pair : (p : List ℕ × List Expr) (text : List ℕ) (es : List Expr) → p.0 ≡ text → p.1 ≡ es → p ≡ (text, es)
 same_pair p text es word same = ap (λ (z : List ℕ). (z, p.1)) word ∙ ap (λ (zs : List Expr). (text, zs)) same
 
 pub only_range : (tokens tail rest after : List Token) (name : Token) (text : List ℕ) (es : List Expr) → IsRangeFront tokens name tail → text ≡ name.text
-    → IsOnlyBefore SpellsBounds (codes ")") tail (Some (es, rest)) → IsBehind (is_mark (codes ")")) rest after → IsOnlyBeginning SpellsRange tokens (Some ((text, es), after))
+    → IsOnlyBefore SpellsBounds (codes ")") tail (Some (es, rest)) → IsAfter (is_symbol (codes ")")) rest after → IsOnlyBeginning SpellsRange tokens (Some ((text, es), after))
 only_range tokens tail rest after name text es front text_is only behind p left begins =
     let r = range_reads tokens left p begins in
     let there = r.there in
     let there' = front.there in
     let same : r.tail ≡ tail = cc in
     let one : r.name ≡ name = cc in
-    let was = only_closed SpellsBounds (is_mark (codes ")")) tail es rest after only behind p.1 left (subst (λ (us : List Token). Begins (Closed (is_mark (codes ")")) SpellsBounds) us p.1 left) same r.bounds) in
+    let was = only_closed SpellsBounds (is_symbol (codes ")")) tail es rest after only behind p.1 left (subst (λ (us : List Token). Begins (Closed (is_symbol (codes ")")) SpellsBounds) us p.1 left) same r.bounds) in
     let word : p.0 ≡ text = r.word ∙ ap (λ (t : Token). t.text) one ∙ sym text_is in
     let same_bounds : ◌≡◌ {A = List Expr} p.1 es = was.0 in
     (same_pair p text es word same_bounds, was.1)
 
 pub range_found : (tokens tail rest after : List Token) (name : Token) (text : List ℕ) (es : List Expr) → IsRangeFront tokens name tail → text ≡ name.text → Begins SpellsBounds tail es rest
-    → IsBehind (is_mark (codes ")")) rest after → Begins SpellsRange tokens (text, es) after
+    → IsAfter (is_symbol (codes ")")) rest after → Begins SpellsRange tokens (text, es) after
 range_found tokens tail rest after name text es front text_is begins behind =
     let closed = front_closed tail begins.0 rest after behind.0 begins.1 behind.1 in
     let all : tokens ≡ name ∷ front.in_word ∷ front.range ∷ front.opening ∷ ((begins.0 ++ behind.0 ∷ []) ++ after) =

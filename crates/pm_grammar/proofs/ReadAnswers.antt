@@ -1,34 +1,38 @@
--- From what a call answered to what was read, and back.
-use Rattle.std.proofs.Common.{◌≡◌, ◌<◌, List, length, subst}
+-- From what a call of a function that reads expressions left to what its caller leaves.
+use Rattle.std.proofs.Common.{◌≡◌, List, subst, sym}
 use Rattle.std.specs.Borrow.{Bor}
-use Rattle.std.specs.Prelude.{IfOk, IfSome, Option, Some, None, Result, Ok, Err}
+use Rattle.std.specs.Prelude.{IfOk, Option, None, Some, Result, Ok, Err}
+use Rattle.std.specs.Result.{IsErr, IsErrAnd}
+use Rattle.std.proofs.lemmas.Bool.{false≢true}
 use Rattle.pm_syn.specs.declared.token.Token.{Token}
-use Rattle.pm_grammar.specs.Reading.{read_of}
+use Rattle.pm_grammar.specs.Readings.{Leaves}
+use Rattle.pm_grammar.specs.declared.reading.ReadFault.{ReadFault}
+use Rattle.pm_grammar.specs.declared.reading.ReadFault.TheVariants as fault
 
-module _ {A : Type 0} (o : Option (A × Bor (List Token))) where
-  -- this was read
-  pub found_some : (Found : A → List Token → Type 0) (a : A) (rest : Bor (List Token)) → o ≡ Some (a, rest) → IfSome o (λ p. Found p.0 p.1.now) → Found a rest.now
-  found_some Found a rest is h = subst (λ (z : Option (A × Bor (List Token))). IfSome z (λ p. Found p.0 p.1.now)) is h
+-- a call that read nothing leaves nothing to its caller
+fault_passed : {A B : Type 0} (Was : Option (A × List Token) → Type 0) (Is : Option (B × List Token) → Type 0) (e : ReadFault) → (Was None → Is None) → Leaves Was (Err e) → Leaves Is (Err e)
+fault_passed Was Is fault.NotSpelled to was = to was
+fault_passed Was Is fault.NoMemory to was = tt
 
-  pub only_some : (Only : Option (A × List Token) → Type 0) (a : A) (rest : Bor (List Token)) → o ≡ Some (a, rest) → Only (read_of o) → Only (Some (a, rest.now))
-  only_some Only a rest is h = subst (λ (z : Option (A × Bor (List Token))). Only (read_of z)) is h
+pub failed : {A B : Type 0} (Was : Option (A × List Token) → Type 0) (Is : Option (B × List Token) → Type 0) (r : Result (B × Bor (List Token)) ReadFault) (e : ReadFault)
+    → (Was None → Is None) → IsErr r × IsErrAnd r (λ error. error ≡ e) → Leaves Was (Err e) → Leaves Is r
+failed Was Is (Ok read) e to is was = absurd (false≢true is.0)
+failed Was Is (Err error) e to is was = subst (λ (f : ReadFault). Leaves Is (Err f)) (sym is.1) (fault_passed Was Is e to was)
 
-  -- nothing was read
-  pub only_none : (Only : Option (A × List Token) → Type 0) → o ≡ None → Only (read_of o) → Only None
-  only_none Only is h = subst (λ (z : Option (A × Bor (List Token))). Only (read_of z)) is h
-
-  pub shorter_some : (tokens : List Token) (a : A) (rest : Bor (List Token)) → o ≡ Some (a, rest) → IfSome o (λ p. length p.1.now < length tokens) → length rest.now < length tokens
-  shorter_some tokens a rest is h = subst (λ (z : Option (A × Bor (List Token))). IfSome z (λ p. length p.1.now < length tokens)) is h
+-- what holds of a result that was read holds of a fault
+pub none_read : {A E : Type 0} (r : Result A E) (Holds : A → Type 0) → IsErr r → IfOk r Holds
+none_read (Ok read) Holds is = absurd (false≢true is)
+none_read (Err error) Holds is = tt
 
 -- what is found by a call is found so too
-pub found_ok : {A E : Type 0} (r : Result (Option (A × Bor (List Token))) E) (Found Other : A → List Token → Type 0) → ((a : A) (rest : List Token) → Found a rest → Other a rest)
-    → IfOk r (λ o. IfSome o (λ p. Found p.0 p.1.now)) → IfOk r (λ o. IfSome o (λ p. Other p.0 p.1.now))
-found_ok (Ok None) Found Other to h = tt
-found_ok (Ok (Some p)) Found Other to h = to p.0 p.1.now h
+pub found_ok : {A E : Type 0} (r : Result (A × Bor (List Token)) E) (Found Other : A → List Token → Type 0) → ((a : A) (rest : List Token) → Found a rest → Other a rest)
+    → IfOk r (λ p. Found p.0 p.1.now) → IfOk r (λ p. Other p.0 p.1.now)
+found_ok (Ok p) Found Other to h = to p.0 p.1.now h
 found_ok (Err e) Found Other to h = tt
 
 -- and nothing else is read
-pub only_ok : {A E : Type 0} (r : Result (Option (A × Bor (List Token))) E) (Only Other : Option (A × List Token) → Type 0) → ((read : Option (A × List Token)) → Only read → Other read)
-    → IfOk r (λ o. Only (read_of o)) → IfOk r (λ o. Other (read_of o))
-only_ok (Ok o) Only Other to h = to (read_of o) h
-only_ok (Err e) Only Other to h = tt
+pub only_ok : {A : Type 0} (r : Result (A × Bor (List Token)) ReadFault) (Only Other : Option (A × List Token) → Type 0) → ((read : Option (A × List Token)) → Only read → Other read)
+    → Leaves Only r → Leaves Other r
+only_ok (Ok p) Only Other to h = to (Some (p.0, p.1.now)) h
+only_ok (Err fault.NotSpelled) Only Other to h = to None h
+only_ok (Err fault.NoMemory) Only Other to h = tt

@@ -6,16 +6,16 @@ use Rattle.pm_syn.specs.declared.expression.Expr.{Expr}
 use Rattle.pm_syn.specs.declared.token.Token.{Token}
 use Rattle.pm_grammar.specs.Brackets.{SpellsMore}
 use Rattle.pm_grammar.specs.Expressions.{Spells, SpellsArgument, SpellsArgumentSequence, SpellsArguments, SpellsItems, SpellsSequence}
-use Rattle.pm_grammar.specs.Fronts.{IsBehind, IsNotThere}
-use Rattle.pm_grammar.specs.Marks.{is_mark}
+use Rattle.pm_grammar.specs.Prefixes.{IsAfter, IsNotFirst}
+use Rattle.pm_grammar.specs.Tokens.{is_symbol}
 use Rattle.pm_grammar.specs.Reading.{Ends}
 use Rattle.pm_grammar.specs.declared.level.Level.TheVariants as level
-use Rattle.pm_grammar.proofs.OneMark.{ends_comma}
+use Rattle.pm_grammar.proofs.OneSymbol.{ends_comma}
 use Rattle.pm_grammar.proofs.Parts.{not_there}
 
 module _ {A : Type 0} (Spelled : List Token → A → Type 0) where
-  -- one more stands last
-  more_end : (b : Bool) (ts us : List Token) (comma : Token) (ones : List A) (one : A) → SpellsMore Spelled false ts ones → IsTrue (is_mark (codes ",") comma) → Spelled us one
+  -- one more comes last
+  more_end : (b : Bool) (ts us : List Token) (comma : Token) (ones : List A) (one : A) → SpellsMore Spelled false ts ones → IsTrue (is_symbol (codes ",") comma) → Spelled us one
       → SpellsMore Spelled b (ts ++ comma ∷ us) (ones ++ one ∷ [])
   more_end b _ us comma _ one SpellsMore.none mark spelled =
       subst (λ (zs : List Token). SpellsMore Spelled b (comma ∷ zs) (one ∷ [])) (append-nil us) (SpellsMore.next us [] comma one [] mark spelled SpellsMore.none)
@@ -24,44 +24,44 @@ module _ {A : Type 0} (Spelled : List Token → A → Type 0) where
       subst (λ (zs : List Token). SpellsMore Spelled b (first ∷ zs) (head ∷ (others ++ one ∷ []))) (sym (append_assoc ts vs (comma ∷ us)))
       (SpellsMore.next ts (vs ++ comma ∷ us) first head (others ++ one ∷ []) mark' spelled' (more_end b vs us comma others one more mark spelled))
 
-  -- a comma stands last
-  more_comma : (ts : List Token) (comma : Token) (ones : List A) → SpellsMore Spelled false ts ones → IsTrue (is_mark (codes ",") comma) → SpellsMore Spelled true (ts ++ comma ∷ []) ones
+  -- a comma comes last
+  more_comma : (ts : List Token) (comma : Token) (ones : List A) → SpellsMore Spelled false ts ones → IsTrue (is_symbol (codes ",") comma) → SpellsMore Spelled true (ts ++ comma ∷ []) ones
   more_comma _ comma _ SpellsMore.none mark = SpellsMore.comma comma refl mark
   more_comma _ comma _ (SpellsMore.comma last ends mark') mark = absurd (false≢true ends)
   more_comma _ comma _ (SpellsMore.next ts vs first head others mark' spelled more) mark =
       subst (λ (zs : List Token). SpellsMore Spelled true (first ∷ zs) (head ∷ others)) (sym (append_assoc ts vs (comma ∷ [])))
       (SpellsMore.next ts (vs ++ comma ∷ []) first head others mark' spelled (more_comma vs comma others more mark))
 
-  -- none stands last, though one may
+  -- none comes last, though one may
   more_may : (b : Bool) (ts : List Token) (ones : List A) → SpellsMore Spelled false ts ones → SpellsMore Spelled b ts ones
   more_may b _ _ SpellsMore.none = SpellsMore.none
   more_may b _ _ (SpellsMore.comma last ends mark) = absurd (false≢true ends)
   more_may b _ _ (SpellsMore.next ts vs first head others mark spelled more) = SpellsMore.next ts vs first head others mark spelled (more_may b vs others more)
 
-  -- the token behind one: a comma, or what follows the last
+  -- the token after one: a comma, or what follows the last
   pub more_first : (b : Bool) (ts rest : List Token) (ones : List A) (closing : Token) → SpellsMore Spelled b ts ones
-      → (t : Token) × (us : List Token) × (ts ++ closing ∷ rest ≡ t ∷ us) × (IsTrue (is_mark (codes ",") t) ⊎ (t ≡ closing))
+      → (t : Token) × (us : List Token) × (ts ++ closing ∷ rest ≡ t ∷ us) × (IsTrue (is_symbol (codes ",") t) ⊎ (t ≡ closing))
   more_first b _ rest _ closing SpellsMore.none = (closing, rest, refl, inr refl)
   more_first b _ rest _ closing (SpellsMore.comma last ends mark) = (last, closing ∷ rest, refl, inl mark)
   more_first b _ rest _ closing (SpellsMore.next ts vs first head others mark spelled more) = (first, (ts ++ vs) ++ closing ∷ rest, refl, inl mark)
 
   -- no comma is there, so nothing follows
-  pub more_done : (b : Bool) (ts rest left : List Token) (ones : List A) (closing : Token) → SpellsMore Spelled b ts ones → left ≡ ts ++ closing ∷ rest → IsNotThere (is_mark (codes ",")) left
+  pub more_done : (b : Bool) (ts rest left : List Token) (ones : List A) (closing : Token) → SpellsMore Spelled b ts ones → left ≡ ts ++ closing ∷ rest → IsNotFirst (is_symbol (codes ",")) left
       → (ones ≡ []) × (left ≡ closing ∷ rest)
   more_done b _ rest left _ closing SpellsMore.none is apart = (refl, is)
-  more_done b _ rest left _ closing (SpellsMore.comma last ends mark) is apart = absurd (not_there (is_mark (codes ",")) left (closing ∷ rest) last apart is mark)
+  more_done b _ rest left _ closing (SpellsMore.comma last ends mark) is apart = absurd (not_there (is_symbol (codes ",")) left (closing ∷ rest) last apart is mark)
   more_done b _ rest left _ closing (SpellsMore.next ts vs first head others mark spelled more) is apart =
-      absurd (not_there (is_mark (codes ",")) left ((ts ++ vs) ++ closing ∷ rest) first apart is mark)
+      absurd (not_there (is_symbol (codes ",")) left ((ts ++ vs) ++ closing ∷ rest) first apart is mark)
 
-  -- a comma is there: it stands last, or one follows it
-  pub more_on : (b : Bool) (ts rest left tail : List Token) (ones : List A) (closing : Token) → SpellsMore Spelled b ts ones → left ≡ ts ++ closing ∷ rest → IsBehind (is_mark (codes ",")) left tail
-      → is_mark (codes ",") closing ≡ false
+  -- a comma is there: it comes last, or one follows it
+  pub more_on : (b : Bool) (ts rest left tail : List Token) (ones : List A) (closing : Token) → SpellsMore Spelled b ts ones → left ≡ ts ++ closing ∷ rest → IsAfter (is_symbol (codes ",")) left tail
+      → is_symbol (codes ",") closing ≡ false
       → (IsTrue b × (ones ≡ []) × (tail ≡ closing ∷ rest))
       ⊎ ((us vs : List Token) × (one : A) × (others : List A) × (ones ≡ one ∷ others) × (tail ≡ us ++ (vs ++ closing ∷ rest)) × Spelled us one × SpellsMore Spelled b vs others)
   more_on b _ rest left tail _ closing SpellsMore.none is behind apart =
       let there = behind.1 in
       let same : behind.0 ≡ closing = cc in
-      absurd (false≢true (sym apart ∙ ap (is_mark (codes ",")) (sym same) ∙ behind.2))
+      absurd (false≢true (sym apart ∙ ap (is_symbol (codes ",")) (sym same) ∙ behind.2))
   more_on b _ rest left tail _ closing (SpellsMore.comma last ends mark) is behind apart =
       let there = behind.1 in
       inl (ends, refl, cc)
@@ -89,7 +89,7 @@ module _ {A : Type 0} (Spelled : List Token → A → Type 0) where
   first_only : (ts : List Token) (one : A) → Spelled ts one → IsFirstAndMore Spelled false ts (one ∷ [])
   first_only ts one spelled = (ts, [], one, [], sym (append-nil ts), refl, spelled, SpellsMore.none)
 
-  first_more : (ts us : List Token) (comma : Token) (ones : List A) (one : A) → IsFirstAndMore Spelled false ts ones → IsTrue (is_mark (codes ",") comma) → Spelled us one
+  first_more : (ts us : List Token) (comma : Token) (ones : List A) (one : A) → IsFirstAndMore Spelled false ts ones → IsTrue (is_symbol (codes ",") comma) → Spelled us one
       → IsFirstAndMore Spelled false (ts ++ comma ∷ us) (ones ++ one ∷ [])
   first_more ts us comma ones one first mark spelled = (
     first.0,
@@ -102,7 +102,7 @@ module _ {A : Type 0} (Spelled : List Token → A → Type 0) where
     more_end Spelled false first.1 us comma first.3 one first.7 mark spelled,
   )
 
-  first_comma : (ts : List Token) (comma : Token) (ones : List A) → IsFirstAndMore Spelled false ts ones → IsTrue (is_mark (codes ",") comma) → IsFirstAndMore Spelled true (ts ++ comma ∷ []) ones
+  first_comma : (ts : List Token) (comma : Token) (ones : List A) → IsFirstAndMore Spelled false ts ones → IsTrue (is_symbol (codes ",") comma) → IsFirstAndMore Spelled true (ts ++ comma ∷ []) ones
   first_comma ts comma ones first mark = (
     first.0,
     first.1 ++ comma ∷ [],

@@ -7,14 +7,14 @@ use Rattle.pm_syn.specs.declared.statement.Par.{Par}
 use Rattle.pm_syn.specs.declared.statement.Stmt.{Stmt}
 use Rattle.pm_syn.specs.declared.statement.Stmt.TheViews as stmt
 use Rattle.pm_syn.specs.declared.token.Token.{Token}
-use Rattle.pm_grammar.specs.Fronts.{IsBehind, IsNotThere, begins_with}
+use Rattle.pm_grammar.specs.Prefixes.{IsAfter, IsNotFirst, begins_with}
 use Rattle.pm_grammar.specs.Brackets.{ends_argument}
 use Rattle.pm_grammar.specs.Headers.{IsOnlyParameter, IsSignature, SpellsDefinition, SpellsFunctionEnd, definition, function_end}
-use Rattle.pm_grammar.specs.Marks.{is_mark, is_name, is_word}
+use Rattle.pm_grammar.specs.Tokens.{is_symbol, is_name, is_word}
 use Rattle.pm_grammar.specs.Reading.{Begins, Ends, IsOnlyBefore, IsRead}
 use Rattle.pm_grammar.specs.Statements.{SpellsEnd, SpellsOptional, SpellsParameter, SpellsParameters, SpellsResult, SpellsSignature, absent, and_parameter, itself, parameter, parameters_comma, present, with_parameters, without_parameters}
 use Rattle.pm_grammar.specs.declared.level.Level.TheVariants as level
-use Rattle.pm_grammar.proofs.OneMark.{argument_ends, ends_equals, mark_no_name, mark_no_word, no_argument_end, other_mark}
+use Rattle.pm_grammar.proofs.OneSymbol.{argument_ends, ends_equals, mark_no_name, mark_no_word, no_argument_end, other_mark}
 use Rattle.pm_grammar.proofs.Headers.{none_before_end, only_before_end, read_none, read_some}
 
 pair_is : {A B : Type 0} (pair : A × B) (a : A) (b : B) → pair.0 ≡ a → pair.1 ≡ b → pair ≡ (a, b)
@@ -22,9 +22,9 @@ pair_is {A} {B} pair a b first second = ap (λ (x : A). (x, pair.1)) first ∙ a
 
 -- ---- where a parameter ends
 
--- where a default or the end of a parameter begins, no annotation goes on
+-- if a default or the end of a parameter begins, no annotation continues
 pub note_ends : {us : List Token} {default : Option Expr} → SpellsOptional (codes "=") us default → (next : Token) (rest : List Token) → IsTrue (ends_argument next)
-    → IsNotThere (is_mark (codes ":")) (us ++ (next ∷ rest)) × Ends level.Conditional (us ++ (next ∷ rest))
+    → IsNotFirst (is_symbol (codes ":")) (us ++ (next ∷ rest)) × Ends level.Conditional (us ++ (next ∷ rest))
 note_ends absent next rest is = (no_argument_end (codes ":") next refl refl is, argument_ends next is)
 note_ends (present sign ts e sign_is inner) next rest is = (other_mark (codes "=") (codes ":") sign refl sign_is, ends_equals sign sign_is)
 
@@ -34,11 +34,11 @@ note_ends (present sign ts e sign_is inner) next rest is = (other_mark (codes "=
 abbrev par_of : List ℕ → Option Expr → Option Expr → Par
 par_of text note default = record { name = text; note = note; default = default }
 
--- each optional expression with which the tokens begin, and that doesn't go on behind it, was read
+-- each optional expression with which the tokens begin, and that doesn't continue after it, was read
 abbrev pub IsOnlyOptional : List ℕ → List Token → Option (Option Expr × List Token) → Type 0
-IsOnlyOptional bytes all read = (one : Option Expr) (rest : List Token) → Begins (SpellsOptional bytes) all one rest → IsNotThere (is_mark bytes) rest → Ends level.Conditional rest → IsRead read one rest
+IsOnlyOptional bytes all read = (one : Option Expr) (rest : List Token) → Begins (SpellsOptional bytes) all one rest → IsNotFirst (is_symbol bytes) rest → Ends level.Conditional rest → IsRead read one rest
 
--- the parts of a parameter behind its name
+-- the parts of a parameter after its name
 abbrev IsParameterBehind : Token → List Token → Par → Token → List Token → Type 0
 IsParameterBehind name tail one next rest =
     (note : Option Expr) × (default : Option Expr) × (us : List Token) × (one ≡ par_of name.text note default)
@@ -98,13 +98,13 @@ parameter_found all tail mid behind name text note default named note_found defa
 parameter_begins : {us : List Token} {p : Par} → SpellsParameter us p → (name : Token) × (tail : List Token) × (us ≡ name ∷ tail) × IsTrue (is_name name)
 parameter_begins (parameter name ts us its_note default is note_is default_is) = (name, ts ++ us, refl, is)
 
--- ---- how a signature goes on
+-- ---- how a signature continues
 
--- behind these parameters a signature goes on by the tokens to all of its parameters, and the rest stands behind it
+-- after these parameters a signature continues by the tokens to all of its parameters, and the rest comes after it
 pub data GoesOn : List Par → List Token → List Par → List Token → Type 0 where
   ended : (ps : List Par) (ts : List Token) → GoesOn ps ts ps ts
-  comma_ended : (ps : List Par) (comma : Token) (ts : List Token) → IsTrue (is_mark (codes ",") comma) → GoesOn ps (comma ∷ ts) ps ts
-  goes : (ps every : List Par) (p : Par) (comma : Token) (us ts rest : List Token) → IsTrue (is_mark (codes ",") comma) → SpellsParameter us p → GoesOn (ps ++ p ∷ []) ts every rest → GoesOn ps (comma ∷ (us ++ ts)) every rest
+  comma_ended : (ps : List Par) (comma : Token) (ts : List Token) → IsTrue (is_symbol (codes ",") comma) → GoesOn ps (comma ∷ ts) ps ts
+  goes : (ps every : List Par) (p : Par) (comma : Token) (us ts rest : List Token) → IsTrue (is_symbol (codes ",") comma) → SpellsParameter us p → GoesOn (ps ++ p ∷ []) ts every rest → GoesOn ps (comma ∷ (us ++ ts)) every rest
 
 from_parameters : {ts : List Token} {ps : List Par} → SpellsParameters ts ps → (tail : List Token) (every : List Par) (rest : List Token) → GoesOn ps tail every rest
     → (word : Token) × (us : List Token) × (ts ++ tail ≡ word ∷ us) × IsTrue (is_word (codes "s") word) × GoesOn [] us every rest
@@ -124,11 +124,11 @@ signature_is (parameters_comma comma ts ps spelled is) rest =
     let start = from_parameters spelled (comma ∷ rest) ps rest (comma_ended ps comma rest is) in
     inr (start.0, start.1, append_assoc ts (comma ∷ []) rest ∙ start.2, start.3, refl, start.4)
 
--- each signature with which the tokens begin goes on behind these parameters
+-- each signature with which the tokens begin continues after these parameters
 abbrev pub IsGoingOn : List Token → List Par → List Token → Type 0
-IsGoingOn all ps here = (one : Bool × List Par) (closing : Token) (rest : List Token) → IsTrue (is_mark (codes ")") closing) → Begins IsSignature all one (closing ∷ rest) → (one.0 ≡ true) × GoesOn ps here one.1 (closing ∷ rest)
+IsGoingOn all ps here = (one : Bool × List Par) (closing : Token) (rest : List Token) → IsTrue (is_symbol (codes ")") closing) → Begins IsSignature all one (closing ∷ rest) → (one.0 ≡ true) × GoesOn ps here one.1 (closing ∷ rest)
 
-pub goes_first : (all here : List Token) → IsBehind (is_word (codes "s")) all here → IsGoingOn all [] here
+pub goes_first : (all here : List Token) → IsAfter (is_word (codes "s")) all here → IsGoingOn all [] here
 goes_first all here self one closing rest is begins =
     elim (signature_is begins.2 (closing ∷ rest)) [
       | inl nothing ↦ (
@@ -143,27 +143,27 @@ goes_first all here self one closing rest is begins =
 pub no_self_found : (all : List Token) → Begins IsSignature all (false, []) all
 no_self_found all = ([], refl, without_parameters)
 
-pub no_self_only : (all : List Token) → IsNotThere (is_word (codes "s")) all → IsOnlyBefore IsSignature (codes ")") all (Some ((false, []), all))
+pub no_self_only : (all : List Token) → IsNotFirst (is_word (codes "s")) all → IsOnlyBefore IsSignature (codes ")") all (Some ((false, []), all))
 no_self_only all not_there one closing rest is begins =
     elim (signature_is begins.2 (closing ∷ rest)) [
       | inl nothing ↦ (pair_is one false [] nothing.1 nothing.2, cc (nothing.0, begins.1))
-      | inr some ↦ absurd (both_ways (is_word (codes "s") some.0) (subst (IsNotThere (is_word (codes "s"))) (begins.1 ∙ some.2) not_there) some.3)
+      | inr some ↦ absurd (both_ways (is_word (codes "s") some.0) (subst (IsNotFirst (is_word (codes "s"))) (begins.1 ∙ some.2) not_there) some.3)
     ]
 
-pub self_found : (all here : List Token) → IsBehind (is_word (codes "s")) all here → Begins SpellsParameters all [] here
+pub self_found : (all here : List Token) → IsAfter (is_word (codes "s")) all here → Begins SpellsParameters all [] here
 self_found all here self = (self.0 ∷ [], self.1, itself self.0 self.2)
 
--- the ways to go on
+-- the ways to continue
 goes_is : {ps every : List Par} {ts rest : List Token} → GoesOn ps ts every rest
     → ((ts ≡ rest) × (every ≡ ps))
-    ⊎ (((comma : Token) × (ts ≡ comma ∷ rest) × IsTrue (is_mark (codes ",") comma) × (every ≡ ps))
-    ⊎ ((comma : Token) × (us vs : List Token) × (p : Par) × (ts ≡ comma ∷ (us ++ vs)) × IsTrue (is_mark (codes ",") comma) × SpellsParameter us p × GoesOn (ps ++ p ∷ []) vs every rest))
+    ⊎ (((comma : Token) × (ts ≡ comma ∷ rest) × IsTrue (is_symbol (codes ",") comma) × (every ≡ ps))
+    ⊎ ((comma : Token) × (us vs : List Token) × (p : Par) × (ts ≡ comma ∷ (us ++ vs)) × IsTrue (is_symbol (codes ",") comma) × SpellsParameter us p × GoesOn (ps ++ p ∷ []) vs every rest))
 goes_is (ended ps ts) = inl (refl, refl)
 goes_is (comma_ended ps comma ts is) = inr (inl (comma, refl, is, refl))
 goes_is (goes ps every p comma us ts rest is spelled on) = inr (inr (comma, us, ts, p, refl, is, spelled, on))
 
--- where a signature goes on or ends, a parameter ends
-goes_begins : {ps every : List Par} {ts : List Token} (closing : Token) (rest : List Token) → IsTrue (is_mark (codes ")") closing) → GoesOn ps ts every (closing ∷ rest)
+-- if a signature continues or ends, a parameter ends
+goes_begins : {ps every : List Par} {ts : List Token} (closing : Token) (rest : List Token) → IsTrue (is_symbol (codes ")") closing) → GoesOn ps ts every (closing ∷ rest)
     → (next : Token) × (tail : List Token) × (ts ≡ next ∷ tail) × IsTrue (ends_argument next)
 goes_begins closing rest is on =
     elim (goes_is on) [
@@ -176,40 +176,40 @@ goes_begins closing rest is on =
 
 -- ---- the end of a signature
 
-comma_no_closing : (comma closing : Token) → comma ≡ closing → IsTrue (is_mark (codes ",") comma) → IsTrue (is_mark (codes ")") closing) → ⊥
+comma_no_closing : (comma closing : Token) → comma ≡ closing → IsTrue (is_symbol (codes ",") comma) → IsTrue (is_symbol (codes ")") closing) → ⊥
 comma_no_closing comma closing same is closing_is =
-    both_ways _ (other_mark (codes ",") (codes ")") comma refl is) (subst (λ (t : Token). IsTrue (is_mark (codes ")") t)) (sym same) closing_is)
+    both_ways _ (other_mark (codes ",") (codes ")") comma refl is) (subst (λ (t : Token). IsTrue (is_symbol (codes ")") t)) (sym same) closing_is)
 
 pub signature_found : (all here : List Token) (ps : List Par) → Begins SpellsParameters all ps here → Begins IsSignature all (true, ps) here
 signature_found all here ps begins = (begins.0, begins.1, with_parameters begins.0 ps begins.2)
 
-pub signature_only : (all here : List Token) (ps : List Par) → IsGoingOn all ps here → IsNotThere (is_mark (codes ",")) here → IsOnlyBefore IsSignature (codes ")") all (Some ((true, ps), here))
+pub signature_only : (all here : List Token) (ps : List Par) → IsGoingOn all ps here → IsNotFirst (is_symbol (codes ",")) here → IsOnlyBefore IsSignature (codes ")") all (Some ((true, ps), here))
 signature_only all here ps going not_there one closing rest is begins =
     let on = going one closing rest is begins in
     elim (goes_is on.1) [
       | inl end ↦ (pair_is one true ps on.0 end.1, sym end.0)
       | inr more ↦ elim more [
-        | inl comma ↦ absurd (both_ways (is_mark (codes ",") comma.0) (subst (IsNotThere (is_mark (codes ","))) comma.1 not_there) comma.2)
-        | inr next ↦ absurd (both_ways (is_mark (codes ",") next.0) (subst (IsNotThere (is_mark (codes ","))) next.4 not_there) next.5)
+        | inl comma ↦ absurd (both_ways (is_symbol (codes ",") comma.0) (subst (IsNotFirst (is_symbol (codes ","))) comma.1 not_there) comma.2)
+        | inr next ↦ absurd (both_ways (is_symbol (codes ",") next.0) (subst (IsNotFirst (is_symbol (codes ","))) next.4 not_there) next.5)
       ]
     ]
 
-pub trailing_found : (all here behind : List Token) (ps : List Par) → Begins SpellsParameters all ps here → IsBehind (is_mark (codes ",")) here behind → Begins IsSignature all (true, ps) behind
+pub trailing_found : (all here behind : List Token) (ps : List Par) → Begins SpellsParameters all ps here → IsAfter (is_symbol (codes ",")) here behind → Begins IsSignature all (true, ps) behind
 trailing_found all here behind ps begins comma =
     (begins.0 ++ comma.0 ∷ [], begins.1 ∙ ap (λ (ts : List Token). begins.0 ++ ts) comma.1 ∙ sym (append_assoc begins.0 (comma.0 ∷ []) behind), parameters_comma comma.0 begins.0 ps begins.2 comma.2)
 
--- a parameter doesn't begin with a mark
-no_mark_begins : (mark : List ℕ) (us vs behind : List Token) (p : Par) → behind ≡ us ++ vs → SpellsParameter us p → begins_with (is_mark mark) behind ≡ false
+-- a parameter doesn't begin with a symbol
+no_mark_begins : (mark : List ℕ) (us vs behind : List Token) (p : Par) → behind ≡ us ++ vs → SpellsParameter us p → begins_with (is_symbol mark) behind ≡ false
 no_mark_begins mark us vs behind p front spelled =
     let name = parameter_begins spelled in
     let same : behind ≡ name.0 ∷ (name.1 ++ vs) = front ∙ ap (λ (ts : List Token). ts ++ vs) name.2 in
-    rw same (go name.0 (is_mark mark name.0) refl name.3)
+    rw same (go name.0 (is_symbol mark name.0) refl name.3)
   where
-    go : (token : Token) (test : Bool) → is_mark mark token ≡ test → IsTrue (is_name token) → is_mark mark token ≡ false
+    go : (token : Token) (test : Bool) → is_symbol mark token ≡ test → IsTrue (is_name token) → is_symbol mark token ≡ false
     go token true is named = absurd (both_ways _ (mark_no_name mark token is) named)
     go token false is named = is
 
-pub trailing_only : (all here behind : List Token) (ps : List Par) → IsGoingOn all ps here → IsBehind (is_mark (codes ",")) here behind → begins_with (is_mark (codes ")")) behind ≡ true → IsOnlyBefore IsSignature (codes ")") all (Some ((true, ps), behind))
+pub trailing_only : (all here behind : List Token) (ps : List Par) → IsGoingOn all ps here → IsAfter (is_symbol (codes ",")) here behind → begins_with (is_symbol (codes ")")) behind ≡ true → IsOnlyBefore IsSignature (codes ")") all (Some ((true, ps), behind))
 trailing_only all here behind ps going comma begun one closing rest is begins =
     let on = going one closing rest is begins in
     elim (goes_is on.1) [
@@ -222,8 +222,8 @@ trailing_only all here behind ps going comma begun one closing rest is begins =
 
 -- ---- the next parameter
 
-next_read : (all here behind : List Token) (ps : List Par) (read : Option (Par × List Token)) → IsGoingOn all ps here → IsBehind (is_mark (codes ",")) here behind → begins_with (is_mark (codes ")")) behind ≡ false → IsOnlyParameter behind read
-    → (one : Bool × List Par) (closing : Token) (rest : List Token) → IsTrue (is_mark (codes ")") closing) → Begins IsSignature all one (closing ∷ rest)
+next_read : (all here behind : List Token) (ps : List Par) (read : Option (Par × List Token)) → IsGoingOn all ps here → IsAfter (is_symbol (codes ",")) here behind → begins_with (is_symbol (codes ")")) behind ≡ false → IsOnlyParameter behind read
+    → (one : Bool × List Par) (closing : Token) (rest : List Token) → IsTrue (is_symbol (codes ")") closing) → Begins IsSignature all one (closing ∷ rest)
     → (p : Par) × (vs : List Token) × (one.0 ≡ true) × IsRead read p vs × GoesOn (ps ++ p ∷ []) vs one.1 (closing ∷ rest)
 next_read all here behind ps read going comma not_begun only one closing rest is begins =
     let on = going one closing rest is begins in
@@ -232,7 +232,7 @@ next_read all here behind ps read going comma not_begun only one closing rest is
       | inr more ↦ elim more [
         | inl last ↦ (
             let same : behind ≡ closing ∷ rest = cc (comma.1, last.1) in
-            absurd (both_ways _ (subst (λ (ts : List Token). begins_with (is_mark (codes ")")) ts ≡ false) same not_begun) is))
+            absurd (both_ways _ (subst (λ (ts : List Token). begins_with (is_symbol (codes ")")) ts ≡ false) same not_begun) is))
         | inr next ↦ (
             let front : behind ≡ next.1 ++ next.2 = cc (comma.1, next.4) in
             let end = goes_begins closing rest is next.7 in
@@ -241,20 +241,20 @@ next_read all here behind ps read going comma not_begun only one closing rest is
       ]
     ]
 
-pub no_next : (all here behind : List Token) (ps : List Par) (read : Option (Par × List Token)) → IsGoingOn all ps here → IsBehind (is_mark (codes ",")) here behind → begins_with (is_mark (codes ")")) behind ≡ false → IsOnlyParameter behind read
+pub no_next : (all here behind : List Token) (ps : List Par) (read : Option (Par × List Token)) → IsGoingOn all ps here → IsAfter (is_symbol (codes ",")) here behind → begins_with (is_symbol (codes ")")) behind ≡ false → IsOnlyParameter behind read
     → read ≡ None → IsOnlyBefore IsSignature (codes ")") all None
 no_next all here behind ps read going comma not_begun only none one closing rest is begins =
     let there = next_read all here behind ps read going comma not_begun only one closing rest is begins in
     read_none read there.0 there.1 none there.3
 
-pub goes_next : (all here behind next : List Token) (ps : List Par) (p : Par) (read : Option (Par × List Token)) → IsGoingOn all ps here → IsBehind (is_mark (codes ",")) here behind → begins_with (is_mark (codes ")")) behind ≡ false → IsOnlyParameter behind read
+pub goes_next : (all here behind next : List Token) (ps : List Par) (p : Par) (read : Option (Par × List Token)) → IsGoingOn all ps here → IsAfter (is_symbol (codes ",")) here behind → begins_with (is_symbol (codes ")")) behind ≡ false → IsOnlyParameter behind read
     → read ≡ Some (p, next) → IsGoingOn all (ps ++ p ∷ []) next
 goes_next all here behind next ps p read going comma not_begun only some one closing rest is begins =
     let there = next_read all here behind ps read going comma not_begun only one closing rest is begins in
     let same = read_some read there.0 p there.1 next some there.3 in
     (there.2, subst (λ (ts : List Token). GoesOn (ps ++ p ∷ []) ts one.1 (closing ∷ rest)) same.1 (subst (λ (q : Par). GoesOn (ps ++ q ∷ []) there.1 one.1 (closing ∷ rest)) same.0 there.4))
 
-pub next_found : (all here behind next : List Token) (ps : List Par) (p : Par) → Begins SpellsParameters all ps here → IsBehind (is_mark (codes ",")) here behind → Begins SpellsParameter behind p next → Begins SpellsParameters all (ps ++ p ∷ []) next
+pub next_found : (all here behind next : List Token) (ps : List Par) (p : Par) → Begins SpellsParameters all ps here → IsAfter (is_symbol (codes ",")) here behind → Begins SpellsParameter behind p next → Begins SpellsParameters all (ps ++ p ∷ []) next
 next_found all here behind next ps p begins comma spelled =
     let front : here ≡ comma.0 ∷ (spelled.0 ++ next) = comma.1 ∙ ap (λ (ts : List Token). comma.0 ∷ ts) spelled.1 in
     (begins.0 ++ comma.0 ∷ spelled.0, begins.1 ∙ ap (λ (ts : List Token). begins.0 ++ ts) front ∙ sym (append_assoc begins.0 (comma.0 ∷ spelled.0) next), and_parameter comma.0 begins.0 spelled.0 ps p begins.2 comma.2 spelled.2)
@@ -264,38 +264,38 @@ next_found all here behind next ps p begins comma spelled =
 function_end_is : {closing : Token} {ts : List Token} {result : Option Expr} {body : Option Stmt} → SpellsFunctionEnd (closing ∷ ts) result body → (rest : List Token) × Begins SpellsResult ts result rest × SpellsEnd rest body
 function_end_is (function_end closing ts rest result body is begins ends) = (rest, begins, ends)
 
-function_end_behind : (all behind : List Token) → IsBehind (is_mark (codes ")")) all behind → (result : Option Expr) (body : Option Stmt) → SpellsFunctionEnd all result body → (rest : List Token) × Begins SpellsResult behind result rest × SpellsEnd rest body
+function_end_behind : (all behind : List Token) → IsAfter (is_symbol (codes ")")) all behind → (result : Option Expr) (body : Option Stmt) → SpellsFunctionEnd all result body → (rest : List Token) × Begins SpellsResult behind result rest × SpellsEnd rest body
 function_end_behind all behind closing result body is = function_end_is (subst (λ (ts : List Token). SpellsFunctionEnd ts result body) closing.1 is)
 
-pub no_result : (all behind : List Token) (read : Option (Option Expr × List Token)) → IsBehind (is_mark (codes ")")) all behind → IsOnlyBefore SpellsResult (codes ":") behind read → read ≡ None
+pub no_result : (all behind : List Token) (read : Option (Option Expr × List Token)) → IsAfter (is_symbol (codes ")")) all behind → IsOnlyBefore SpellsResult (codes ":") behind read → read ≡ None
     → (result : Option Expr) (body : Option Stmt) → SpellsFunctionEnd all result body → ◌≡◌ {A = Option (Option Expr × Option Stmt)} None (Some (result, body))
 no_result all behind read closing only none result body is =
     let parts = function_end_behind all behind closing result body is in
     absurd (none_before_end SpellsResult behind read only none result parts.0 body parts.1 parts.2)
 
-function_end_parts : (all behind rest : List Token) (result : Option Expr) (read : Option (Option Expr × List Token)) (end : Option (Option Stmt)) → IsBehind (is_mark (codes ")")) all behind → IsOnlyBefore SpellsResult (codes ":") behind read → read ≡ Some (result, rest)
+function_end_parts : (all behind rest : List Token) (result : Option Expr) (read : Option (Option Expr × List Token)) (end : Option (Option Stmt)) → IsAfter (is_symbol (codes ")")) all behind → IsOnlyBefore SpellsResult (codes ":") behind read → read ≡ Some (result, rest)
     → ((body : Option Stmt) → SpellsEnd rest body → end ≡ Some body) → (one : Option Expr) (body : Option Stmt) → SpellsFunctionEnd all one body → (one ≡ result) × (end ≡ Some body)
 function_end_parts all behind rest result read end closing only some only_end one body is =
     let parts = function_end_behind all behind closing one body is in
     only_before_end SpellsResult behind rest result read end only some only_end one parts.0 body parts.1 parts.2
 
-pub no_function_end : (all behind rest : List Token) (result : Option Expr) (read : Option (Option Expr × List Token)) (end : Option (Option Stmt)) → IsBehind (is_mark (codes ")")) all behind → IsOnlyBefore SpellsResult (codes ":") behind read → read ≡ Some (result, rest)
+pub no_function_end : (all behind rest : List Token) (result : Option Expr) (read : Option (Option Expr × List Token)) (end : Option (Option Stmt)) → IsAfter (is_symbol (codes ")")) all behind → IsOnlyBefore SpellsResult (codes ":") behind read → read ≡ Some (result, rest)
     → ((body : Option Stmt) → SpellsEnd rest body → end ≡ Some body) → end ≡ None → (one : Option Expr) (body : Option Stmt) → SpellsFunctionEnd all one body → ◌≡◌ {A = Option (Option Expr × Option Stmt)} None (Some (one, body))
 no_function_end all behind rest result read end closing only some only_end none one body is =
     let parts = function_end_parts all behind rest result read end closing only some only_end one body is in
     absurd (none-some body (sym none ∙ parts.1))
 
-pub function_end_only : (all behind rest : List Token) (result : Option Expr) (body : Option Stmt) (read : Option (Option Expr × List Token)) (end : Option (Option Stmt)) → IsBehind (is_mark (codes ")")) all behind → IsOnlyBefore SpellsResult (codes ":") behind read → read ≡ Some (result, rest)
+pub function_end_only : (all behind rest : List Token) (result : Option Expr) (body : Option Stmt) (read : Option (Option Expr × List Token)) (end : Option (Option Stmt)) → IsAfter (is_symbol (codes ")")) all behind → IsOnlyBefore SpellsResult (codes ":") behind read → read ≡ Some (result, rest)
     → ((body : Option Stmt) → SpellsEnd rest body → end ≡ Some body) → end ≡ Some body → (one : Option Expr) (other : Option Stmt) → SpellsFunctionEnd all one other → ◌≡◌ {A = Option (Option Expr × Option Stmt)} (Some (result, body)) (Some (one, other))
 function_end_only all behind rest result body read end closing only some only_end some_end one other is =
     let parts = function_end_parts all behind rest result read end closing only some only_end one other is in
     let same : body ≡ other = same_Some body other (sym some_end ∙ parts.1) in
     rw (parts.0, same) refl
 
-pub function_end_found : (all behind rest : List Token) (result : Option Expr) (body : Option Stmt) → IsBehind (is_mark (codes ")")) all behind → Begins SpellsResult behind result rest → SpellsEnd rest body → SpellsFunctionEnd all result body
+pub function_end_found : (all behind rest : List Token) (result : Option Expr) (body : Option Stmt) → IsAfter (is_symbol (codes ")")) all behind → Begins SpellsResult behind result rest → SpellsEnd rest body → SpellsFunctionEnd all result body
 function_end_found all behind rest result body closing begins ends = subst (λ (ts : List Token). SpellsFunctionEnd ts result body) (sym closing.1) (function_end closing.0 behind rest result body closing.2 begins ends)
 
-function_end_begins : {ts : List Token} {result : Option Expr} {body : Option Stmt} → SpellsFunctionEnd ts result body → (closing : Token) × (tail : List Token) × (ts ≡ closing ∷ tail) × IsTrue (is_mark (codes ")") closing)
+function_end_begins : {ts : List Token} {result : Option Expr} {body : Option Stmt} → SpellsFunctionEnd ts result body → (closing : Token) × (tail : List Token) × (ts ≡ closing ∷ tail) × IsTrue (is_symbol (codes ")") closing)
 function_end_begins (function_end closing ts rest result body is begins ends) = (closing, ts, refl, is)
 
 -- ---- a definition
@@ -304,7 +304,7 @@ definition_is : {name opening : Token} {ts : List Token} {s : Stmt} → SpellsDe
     → (rest : List Token) × (has_self : Bool) × (ps : List Par) × (result : Option Expr) × (body : Option Stmt) × (s ≡ stmt.Def name.text has_self ps result body) × Begins IsSignature ts (has_self, ps) rest × SpellsFunctionEnd rest result body
 definition_is (definition name opening ts rest has_self ps result body is opening_is begins ends) = (rest, has_self, ps, result, body, refl, begins, ends)
 
--- where the end of a function's header follows, the signature was read
+-- if the end of a function's header follows, the signature was read
 read_before_end : (behind : List Token) (read : Option ((Bool × List Par) × List Token)) → IsOnlyBefore IsSignature (codes ")") behind read → (one : Bool × List Par) (rest : List Token) (result : Option Expr) (body : Option Stmt)
     → Begins IsSignature behind one rest → SpellsFunctionEnd rest result body → IsRead read one rest
 read_before_end behind read only one rest result body begins ends =
@@ -312,7 +312,7 @@ read_before_end behind read only one rest result body begins ends =
     let read_there = only one closing.0 closing.1 closing.3 (subst (λ (ts : List Token). Begins IsSignature behind one ts) closing.2 begins) in
     subst (λ (ts : List Token). IsRead read one ts) (sym closing.2) read_there
 
-signature_read : (all tail behind : List Token) (name : Token) (read : Option ((Bool × List Par) × List Token)) → all ≡ name ∷ tail → IsBehind (is_mark (codes "(")) tail behind → IsOnlyBefore IsSignature (codes ")") behind read
+signature_read : (all tail behind : List Token) (name : Token) (read : Option ((Bool × List Par) × List Token)) → all ≡ name ∷ tail → IsAfter (is_symbol (codes "(")) tail behind → IsOnlyBefore IsSignature (codes ")") behind read
     → (s : Stmt) → SpellsDefinition all s
     → (rest : List Token) × (has_self : Bool) × (ps : List Par) × (result : Option Expr) × (body : Option Stmt) × (s ≡ stmt.Def name.text has_self ps result body) × IsRead read (has_self, ps) rest × SpellsFunctionEnd rest result body
 signature_read all tail behind name read front opening only s is =
@@ -320,13 +320,13 @@ signature_read all tail behind name read front opening only s is =
     let there = definition_is (subst (λ (ts : List Token). SpellsDefinition ts s) same is) in
     (there.0, there.1, there.2, there.3, there.4, there.5, read_before_end behind read only (there.1, there.2) there.0 there.3 there.4 there.6 there.7, there.7)
 
-pub no_signature : (all tail behind : List Token) (name : Token) (read : Option ((Bool × List Par) × List Token)) → all ≡ name ∷ tail → IsBehind (is_mark (codes "(")) tail behind → IsOnlyBefore IsSignature (codes ")") behind read → read ≡ None
+pub no_signature : (all tail behind : List Token) (name : Token) (read : Option ((Bool × List Par) × List Token)) → all ≡ name ∷ tail → IsAfter (is_symbol (codes "(")) tail behind → IsOnlyBefore IsSignature (codes ")") behind read → read ≡ None
     → (s : Stmt) → SpellsDefinition all s → None ≡ Some s
 no_signature all tail behind name read front opening only none s is =
     let there = signature_read all tail behind name read front opening only s is in
     absurd (read_none read (there.1, there.2) there.0 none there.6)
 
-definition_parts : (all tail behind rest : List Token) (name : Token) (has_self : Bool) (ps : List Par) (read : Option ((Bool × List Par) × List Token)) (end : Option (Option Expr × Option Stmt)) → all ≡ name ∷ tail → IsBehind (is_mark (codes "(")) tail behind
+definition_parts : (all tail behind rest : List Token) (name : Token) (has_self : Bool) (ps : List Par) (read : Option ((Bool × List Par) × List Token)) (end : Option (Option Expr × Option Stmt)) → all ≡ name ∷ tail → IsAfter (is_symbol (codes "(")) tail behind
     → IsOnlyBefore IsSignature (codes ")") behind read → read ≡ Some ((has_self, ps), rest) → ((result : Option Expr) (body : Option Stmt) → SpellsFunctionEnd rest result body → end ≡ Some (result, body))
     → (s : Stmt) → SpellsDefinition all s → (result : Option Expr) × (body : Option Stmt) × (s ≡ stmt.Def name.text has_self ps result body) × (end ≡ Some (result, body))
 definition_parts all tail behind rest name has_self ps read end front opening only some only_end s is =
@@ -335,14 +335,14 @@ definition_parts all tail behind rest name has_self ps read end front opening on
     let made : s ≡ stmt.Def name.text has_self ps there.3 there.4 = there.5 ∙ ap (λ (signature : Bool × List Par). stmt.Def name.text signature.0 signature.1 there.3 there.4) same.0 in
     (there.3, there.4, made, only_end there.3 there.4 (subst (λ (ts : List Token). SpellsFunctionEnd ts there.3 there.4) same.1 there.7))
 
-pub no_definition : (all tail behind rest : List Token) (name : Token) (has_self : Bool) (ps : List Par) (read : Option ((Bool × List Par) × List Token)) (end : Option (Option Expr × Option Stmt)) → all ≡ name ∷ tail → IsBehind (is_mark (codes "(")) tail behind
+pub no_definition : (all tail behind rest : List Token) (name : Token) (has_self : Bool) (ps : List Par) (read : Option ((Bool × List Par) × List Token)) (end : Option (Option Expr × Option Stmt)) → all ≡ name ∷ tail → IsAfter (is_symbol (codes "(")) tail behind
     → IsOnlyBefore IsSignature (codes ")") behind read → read ≡ Some ((has_self, ps), rest) → ((result : Option Expr) (body : Option Stmt) → SpellsFunctionEnd rest result body → end ≡ Some (result, body)) → end ≡ None
     → (s : Stmt) → SpellsDefinition all s → None ≡ Some s
 no_definition all tail behind rest name has_self ps read end front opening only some only_end none s is =
     let parts = definition_parts all tail behind rest name has_self ps read end front opening only some only_end s is in
     absurd (none-some (parts.0, parts.1) (sym none ∙ parts.3))
 
-pub definition_only : (all tail behind rest : List Token) (name : Token) (text : List ℕ) (has_self : Bool) (ps : List Par) (result : Option Expr) (body : Option Stmt) (read : Option ((Bool × List Par) × List Token)) (end : Option (Option Expr × Option Stmt)) → all ≡ name ∷ tail → IsBehind (is_mark (codes "(")) tail behind
+pub definition_only : (all tail behind rest : List Token) (name : Token) (text : List ℕ) (has_self : Bool) (ps : List Par) (result : Option Expr) (body : Option Stmt) (read : Option ((Bool × List Par) × List Token)) (end : Option (Option Expr × Option Stmt)) → all ≡ name ∷ tail → IsAfter (is_symbol (codes "(")) tail behind
     → IsOnlyBefore IsSignature (codes ")") behind read → read ≡ Some ((has_self, ps), rest) → ((result : Option Expr) (body : Option Stmt) → SpellsFunctionEnd rest result body → end ≡ Some (result, body)) → end ≡ Some (result, body) → text ≡ name.text
     → (s : Stmt) → SpellsDefinition all s → Some (stmt.Def text has_self ps result body) ≡ Some s
 definition_only all tail behind rest name text has_self ps result body read end front opening only some only_end some_end same s is =
@@ -350,7 +350,7 @@ definition_only all tail behind rest name text has_self ps result body read end 
     let ends = some_pair_parts result parts.0 body parts.1 (sym some_end ∙ parts.3) in
     rw (parts.2, same, ends.0, ends.1) refl
 
-pub definition_found : (all tail behind rest : List Token) (name : Token) (text : List ℕ) (has_self : Bool) (ps : List Par) (result : Option Expr) (body : Option Stmt) → (all ≡ name ∷ tail) × IsTrue (is_name name) → IsBehind (is_mark (codes "(")) tail behind
+pub definition_found : (all tail behind rest : List Token) (name : Token) (text : List ℕ) (has_self : Bool) (ps : List Par) (result : Option Expr) (body : Option Stmt) → (all ≡ name ∷ tail) × IsTrue (is_name name) → IsAfter (is_symbol (codes "(")) tail behind
     → Begins IsSignature behind (has_self, ps) rest → SpellsFunctionEnd rest result body → text ≡ name.text → SpellsDefinition all (stmt.Def text has_self ps result body)
 definition_found all tail behind rest name text has_self ps result body named opening begins ends same =
     let front : all ≡ name ∷ opening.0 ∷ behind = cc (named.0, opening.1) in

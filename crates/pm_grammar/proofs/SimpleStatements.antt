@@ -1,4 +1,4 @@
--- What the tokens of a simple statement spell, by what stands first and behind its first expression.
+-- What the tokens of a simple statement spell, by what comes first and after its first expression.
 use Rattle.std.proofs.Common.{arith, ◌≡◌, ◌⊎◌, ◌∙◌, ◌++◌, Bool, true, false, if◌then◌else◌, ℕ, IsTrue, IfSome, MatchBool, ◌<◌, List, length, ◌==◌, [], ◌∷◌, codes, Option, Some, None, Result, Ok, Err, IfOk, Bor, refl, sym, ap, subst, inl, inr, append-nil}
 use Rattle.std.proofs.Math.Path.{subst₂}
 use Rattle.std.specs.List.{AllWithin, HoldsAt}
@@ -13,16 +13,16 @@ use Rattle.pm_syn.specs.declared.statement.Stmt as leaf
 use Rattle.pm_syn.specs.declared.token.Token.{Token}
 use Rattle.pm_syn.specs.declared.token.TokenKind.{TokenKind}
 use Rattle.pm_syn.specs.declared.token.TokenKind.TheVariants as kind
-use Rattle.pm_grammar.specs.ExpressionStatements.{EndsAssertion, SpellsBehind, SpellsWithExpression}
+use Rattle.pm_grammar.specs.ExpressionStatements.{EndsAssertion, SpellsAfter, SpellsWithExpression}
 use Rattle.pm_grammar.specs.Expressions.{Spells}
-use Rattle.pm_grammar.specs.Fronts.{IsBehind, IsNotThere, begins_with}
+use Rattle.pm_grammar.specs.Prefixes.{IsAfter, IsNotFirst, begins_with}
 use Rattle.pm_syn.specs.Names.{is_keyword}
-use Rattle.pm_grammar.specs.Marks.{is_mark, is_word}
+use Rattle.pm_grammar.specs.Tokens.{is_symbol, is_word}
 use Rattle.pm_grammar.specs.Reading.{Begins, Ends, IsOnly, read_of}
 use Rattle.pm_grammar.specs.Statements.{AreStrings, IsExpression, SpellsSimple, assignment_of}
 use Rattle.pm_grammar.specs.declared.level.Level.TheVariants as level
 use Rattle.pm_grammar.proofs.ExpressionStarts.{begins_more, no_expression-word, opens, opens_expression}
-use Rattle.pm_grammar.proofs.OneMark.{ends_colon, ends_comma, ends_equals}
+use Rattle.pm_grammar.proofs.OneSymbol.{ends_colon, ends_comma, ends_equals}
 use Rattle.pm_grammar.proofs.StatementStarts.{no_simple_in}
 use Rattle.pm_grammar.proofs.TokenTexts.{by_mark, by_string, by_word, like}
 
@@ -84,31 +84,31 @@ pub only_as : {E : Type 0} (P Q : Stmt → Type 0) → ((s : Stmt) → Q s → P
 only_as P Q moved (Ok o) only = λ s is. only s (moved s is)
 only_as P Q moved (Err e) only = only
 
--- what was read behind the token is what was read
+-- what was read after the token is what was read
 pub only_after : {E : Type 0} (Q : Stmt → Type 0) (Mark : Token → Type 0) (P : Token → Stmt → Type 0) (t : Token) → Mark t → ((s : Stmt) → Q s → P t s)
     → (r : Result (Option Stmt) E) → IfOk r (λ o. (s : Stmt) (t : Token) → Mark t → P t s → o ≡ Some s) → IfOk r (λ o. (s : Stmt) → Q s → o ≡ Some s)
 only_after Q Mark P t mark moved (Ok o) only = λ s is. only s t mark (moved s is)
 only_after Q Mark P t mark moved (Err e) only = only
 
--- ---- the marks of assignments
+-- ---- the symbols of assignments
 
 chosen : (P : Type 0) (test : Bool) (here op : AssignOp) (other : Option AssignOp) → (if test then Some here else other) ≡ Some op → (IsTrue test → here ≡ op → P) → (other ≡ Some op → P) → P
 chosen P true here op other is then_so otherwise = then_so refl cc
 chosen P false here op other is then_so otherwise = otherwise is
 
--- what holds of the marks of assignments holds of the token
+-- what holds of the symbols of assignments holds of the token
 by_assignment : (P : Token → Type 0) (sign : Token) (op : AssignOp) → assignment_of sign ≡ Some op → P (like kind.Op (codes "=") sign)
     → P (like kind.Op (codes "@=") sign) → P (like kind.Op (codes "<<=") sign) → P (like kind.Op (codes "//=") sign) → P sign
 by_assignment P sign op is plain now next join =
-    chosen (P sign) (is_mark (codes "=") sign) assign.Plain op _ is (λ mark _. by_mark (codes "=") sign P mark plain)
-    (λ is. chosen (P sign) (is_mark (codes "@=") sign) assign.Now op _ is (λ mark _. by_mark (codes "@=") sign P mark now)
-    (λ is. chosen (P sign) (is_mark (codes "<<=") sign) assign.Next op _ is (λ mark _. by_mark (codes "<<=") sign P mark next)
-    (λ is. chosen (P sign) (is_mark (codes "//=") sign) assign.Join op _ is (λ mark _. by_mark (codes "//=") sign P mark join) (λ is. cc))))
+    chosen (P sign) (is_symbol (codes "=") sign) assign.Plain op _ is (λ mark _. by_mark (codes "=") sign P mark plain)
+    (λ is. chosen (P sign) (is_symbol (codes "@=") sign) assign.Now op _ is (λ mark _. by_mark (codes "@=") sign P mark now)
+    (λ is. chosen (P sign) (is_symbol (codes "<<=") sign) assign.Next op _ is (λ mark _. by_mark (codes "<<=") sign P mark next)
+    (λ is. chosen (P sign) (is_symbol (codes "//=") sign) assign.Join op _ is (λ mark _. by_mark (codes "//=") sign P mark join) (λ is. cc))))
 
-join_assigns : (sign : Token) → IsTrue (is_mark (codes "//=") sign) → assignment_of sign ≡ Some assign.Join
+join_assigns : (sign : Token) → IsTrue (is_symbol (codes "//=") sign) → assignment_of sign ≡ Some assign.Join
 join_assigns sign is = by_mark (codes "//=") sign (λ t. assignment_of t ≡ Some assign.Join) is refl
 
-colon_assigns : (sign : Token) → IsTrue (is_mark (codes ":") sign) → assignment_of sign ≡ None
+colon_assigns : (sign : Token) → IsTrue (is_symbol (codes ":") sign) → assignment_of sign ≡ None
 colon_assigns sign is = by_mark (codes ":") sign (λ t. assignment_of t ≡ None) is refl
 
 pub assignment_ends : (sign : Token) (ts : List Token) (op : AssignOp) → assignment_of sign ≡ Some op → Ends level.Conditional (sign ∷ ts)
@@ -119,21 +119,21 @@ lambda_begins : (word : Token) (ts : List Token) (e : Expr) → IsTrue (is_word 
 unfolding is_keyword
 lambda_begins word ts e is s = no_expression-word (codes "lambda") level.Conditional word ts e refl is s
 
--- ---- what stands behind the first expression
+-- ---- what comes after the first expression
 
--- an expression ends where a statement may go on behind it
-behind_ends : (target : Expr) (rest : List Token) (s : Stmt) → SpellsBehind target rest s → Ends level.Conditional rest
-behind_ends target _ _ SpellsBehind.done = tt
-behind_ends target _ _ (SpellsBehind.assigned sign us op value is _) = assignment_ends sign us op is
-behind_ends target _ _ (SpellsBehind.joined sign word colon us value is _ _ _) = assignment_ends sign (word ∷ colon ∷ us) assign.Join (join_assigns sign is)
-behind_ends target _ _ (SpellsBehind.noted colon us note is _) = ends_colon colon is
-behind_ends target _ _ (SpellsBehind.noted_value colon sign us vs note value is _ _ _) = ends_colon colon is
+-- an expression ends where a statement may continue after it
+behind_ends : (target : Expr) (rest : List Token) (s : Stmt) → SpellsAfter target rest s → Ends level.Conditional rest
+behind_ends target _ _ SpellsAfter.done = tt
+behind_ends target _ _ (SpellsAfter.assigned sign us op value is _) = assignment_ends sign us op is
+behind_ends target _ _ (SpellsAfter.joined sign word colon us value is _ _ _) = assignment_ends sign (word ∷ colon ∷ us) assign.Join (join_assigns sign is)
+behind_ends target _ _ (SpellsAfter.noted colon us note is _) = ends_colon colon is
+behind_ends target _ _ (SpellsAfter.noted_value colon sign us vs note value is _ _ _) = ends_colon colon is
 
 -- the expression with which a statement begins was read
-pub behind_read : (all rest : List Token) (tree : Expr) → IsOnly level.Conditional all (Some (tree, rest)) → (s : Stmt) → SpellsWithExpression all s → SpellsBehind tree rest s
+pub behind_read : (all rest : List Token) (tree : Expr) → IsOnly level.Conditional all (Some (tree, rest)) → (s : Stmt) → SpellsWithExpression all s → SpellsAfter tree rest s
 behind_read all rest tree only s with_it =
     let same = only with_it.0 with_it.1 with_it.2 (behind_ends with_it.0 with_it.1 s with_it.3) in
-    subst₂ (λ (e : Expr) (ts : List Token). SpellsBehind e ts s) same.0 same.1 with_it.3
+    subst₂ (λ (e : Expr) (ts : List Token). SpellsAfter e ts s) same.0 same.1 with_it.3
 
 pub no_behind : (all : List Token) → IsOnly level.Conditional all None → (s : Stmt) → SpellsWithExpression all s → ⊥
 no_behind all only s with_it = only with_it.0 with_it.1 with_it.2 (behind_ends with_it.0 with_it.1 s with_it.3)
@@ -141,41 +141,41 @@ no_behind all only s with_it = only with_it.0 with_it.1 with_it.2 (behind_ends w
 pub with_done : (all rest : List Token) (tree target : Expr) → Begins IsExpression all tree rest → target ≡ tree → rest ≡ [] → SpellsWithExpression all (leaf.Do target)
 with_done all rest tree target begun is none =
     let spelled : IsExpression all target = subst (IsExpression all) (sym is) (whole_found all rest tree begun none) in
-    (target, [], (all, sym (append-nil all), spelled), SpellsBehind.done)
+    (target, [], (all, sym (append-nil all), spelled), SpellsAfter.done)
 
--- the first token behind it
+-- the first token after it
 pub behind_first : (all rest ts : List Token) (tree target : Expr) (sign : Token) → IsOnly level.Conditional all (Some (tree, rest)) → target ≡ tree → rest ≡ sign ∷ ts
-    → (s : Stmt) → SpellsWithExpression all s → SpellsBehind target (sign ∷ ts) s
+    → (s : Stmt) → SpellsWithExpression all s → SpellsAfter target (sign ∷ ts) s
 behind_first all rest ts tree target sign only is front s with_it =
-    subst₂ (λ (e : Expr) (us : List Token). SpellsBehind e us s) (sym is) front (behind_read all rest tree only s with_it)
+    subst₂ (λ (e : Expr) (us : List Token). SpellsAfter e us s) (sym is) front (behind_read all rest tree only s with_it)
 
--- nothing stands behind the expression
-pub behind_done : (target : Expr) (rest : List Token) (s : Stmt) → SpellsBehind target rest s → rest ≡ [] → s ≡ leaf.Do target
-behind_done target _ _ SpellsBehind.done none = refl
-behind_done target _ _ (SpellsBehind.assigned sign us op value _ _) none = cc
-behind_done target _ _ (SpellsBehind.joined sign word colon us value _ _ _ _) none = cc
-behind_done target _ _ (SpellsBehind.noted colon us note _ _) none = cc
-behind_done target _ _ (SpellsBehind.noted_value colon sign us vs note value _ _ _ _) none = cc
+-- nothing comes after the expression
+pub behind_done : (target : Expr) (rest : List Token) (s : Stmt) → SpellsAfter target rest s → rest ≡ [] → s ≡ leaf.Do target
+behind_done target _ _ SpellsAfter.done none = refl
+behind_done target _ _ (SpellsAfter.assigned sign us op value _ _) none = cc
+behind_done target _ _ (SpellsAfter.joined sign word colon us value _ _ _ _) none = cc
+behind_done target _ _ (SpellsAfter.noted colon us note _ _) none = cc
+behind_done target _ _ (SpellsAfter.noted_value colon sign us vs note value _ _ _ _) none = cc
 
--- a colon or the mark of an assignment stands behind the expression
-pub behind_other : (target : Expr) (rest : List Token) (s : Stmt) → SpellsBehind target rest s → (sign : Token) (ts : List Token) → rest ≡ sign ∷ ts
-    → is_mark (codes ":") sign ≡ false → assignment_of sign ≡ None → ⊥
-behind_other target _ _ SpellsBehind.done sign ts is colon none = cc
-behind_other target _ _ (SpellsBehind.assigned sign' us op value assigns _) sign ts is colon none =
+-- a colon or the symbol of an assignment comes after the expression
+pub behind_other : (target : Expr) (rest : List Token) (s : Stmt) → SpellsAfter target rest s → (sign : Token) (ts : List Token) → rest ≡ sign ∷ ts
+    → is_symbol (codes ":") sign ≡ false → assignment_of sign ≡ None → ⊥
+behind_other target _ _ SpellsAfter.done sign ts is colon none = cc
+behind_other target _ _ (SpellsAfter.assigned sign' us op value assigns _) sign ts is colon none =
     let one : sign' ≡ sign = cc in
     let here = ap assignment_of one in
     cc
-behind_other target _ _ (SpellsBehind.joined sign' word colon' us value mark _ _ _) sign ts is colon none =
+behind_other target _ _ (SpellsAfter.joined sign' word colon' us value mark _ _ _) sign ts is colon none =
     let one : sign' ≡ sign = cc in
     let here = ap assignment_of one in
     let assigns = join_assigns sign' mark in
     cc
-behind_other target _ _ (SpellsBehind.noted colon' us note mark _) sign ts is colon none =
+behind_other target _ _ (SpellsAfter.noted colon' us note mark _) sign ts is colon none =
     let one : colon' ≡ sign = cc in
-    both_ways (is_mark (codes ":") sign) colon (subst (λ t. IsTrue (is_mark (codes ":") t)) one mark)
-behind_other target _ _ (SpellsBehind.noted_value colon' sign' us vs note value mark _ _ _) sign ts is colon none =
+    both_ways (is_symbol (codes ":") sign) colon (subst (λ t. IsTrue (is_symbol (codes ":") t)) one mark)
+behind_other target _ _ (SpellsAfter.noted_value colon' sign' us vs note value mark _ _ _) sign ts is colon none =
     let one : colon' ≡ sign = cc in
-    both_ways (is_mark (codes ":") sign) colon (subst (λ t. IsTrue (is_mark (codes ":") t)) one mark)
+    both_ways (is_symbol (codes ":") sign) colon (subst (λ t. IsTrue (is_symbol (codes ":") t)) one mark)
 
 -- ---- assignments
 
@@ -183,61 +183,61 @@ behind_other target _ _ (SpellsBehind.noted_value colon' sign' us vs note value 
 abbrev IsAssigned : AssignOp → Expr → List Token → Stmt → Type 0
 IsAssigned op target ts s = (value : Expr) × IsExpression ts value × (s ≡ leaf.Assign op target value)
 
--- a value that is joined, behind `lambda`
+-- a value that is joined, after `lambda`
 abbrev IsJoined : Expr → List Token → Stmt → Type 0
-IsJoined target ts s = (colon : Token) × (us : List Token) × (value : Expr) × (ts ≡ colon ∷ us) × IsTrue (is_mark (codes ":") colon) × IsExpression us value × (s ≡ leaf.JoinLambda target value)
+IsJoined target ts s = (colon : Token) × (us : List Token) × (value : Expr) × (ts ≡ colon ∷ us) × IsTrue (is_symbol (codes ":") colon) × IsExpression us value × (s ≡ leaf.JoinLambda target value)
 
 -- a block that is joined
 abbrev IsLambda : AssignOp → Expr → List Token → Stmt → Type 0
 IsLambda op target ts s = (word : Token) × (us : List Token) × (op ≡ assign.Join) × (ts ≡ word ∷ us) × IsTrue (is_word (codes "lambda") word) × IsJoined target us s
 
-assigned_is : (target : Expr) (rest : List Token) (s : Stmt) → SpellsBehind target rest s → (sign : Token) (ts : List Token) (op : AssignOp) → rest ≡ sign ∷ ts
+assigned_is : (target : Expr) (rest : List Token) (s : Stmt) → SpellsAfter target rest s → (sign : Token) (ts : List Token) (op : AssignOp) → rest ≡ sign ∷ ts
     → assignment_of sign ≡ Some op → IsAssigned op target ts s ⊎ IsLambda op target ts s
-assigned_is target _ _ SpellsBehind.done sign ts op is assigns = cc
-assigned_is target _ _ (SpellsBehind.assigned sign' us op' value assigns' spelled) sign ts op is assigns =
+assigned_is target _ _ SpellsAfter.done sign ts op is assigns = cc
+assigned_is target _ _ (SpellsAfter.assigned sign' us op' value assigns' spelled) sign ts op is assigns =
     let one : sign' ≡ sign = cc in
     let same : us ≡ ts = cc in
     let here = ap assignment_of one in
     let ops : op' ≡ op = cc in
     inl (value, subst (λ (ts : List Token). IsExpression ts value) same spelled, ap (λ (o : AssignOp). leaf.Assign o target value) ops)
-assigned_is target _ _ (SpellsBehind.joined sign' word colon us value mark lambda colon_mark spelled) sign ts op is assigns =
+assigned_is target _ _ (SpellsAfter.joined sign' word colon us value mark lambda colon_mark spelled) sign ts op is assigns =
     let one : sign' ≡ sign = cc in
     let same : ts ≡ word ∷ colon ∷ us = cc in
     let here = ap assignment_of one in
     let joins = join_assigns sign' mark in
     inr (word, colon ∷ us, cc, same, lambda, (colon, us, value, refl, colon_mark, spelled, refl))
-assigned_is target _ _ (SpellsBehind.noted colon us note mark _) sign ts op is assigns =
+assigned_is target _ _ (SpellsAfter.noted colon us note mark _) sign ts op is assigns =
     let one : colon ≡ sign = cc in
     let here = ap assignment_of one in
     let none = colon_assigns colon mark in
     cc
-assigned_is target _ _ (SpellsBehind.noted_value colon sign' us vs note value mark _ _ _) sign ts op is assigns =
+assigned_is target _ _ (SpellsAfter.noted_value colon sign' us vs note value mark _ _ _) sign ts op is assigns =
     let one : colon ≡ sign = cc in
     let here = ap assignment_of one in
     let none = colon_assigns colon mark in
     cc
 
 -- no `lambda` is joined
-pub assigned_only : (target : Expr) (ts : List Token) (op : AssignOp) → (op ≡ assign.Join → IsNotThere (is_word (codes "lambda")) ts) → (s : Stmt) (sign : Token)
-    → assignment_of sign ≡ Some op → SpellsBehind target (sign ∷ ts) s → IsAssigned op target ts s
+pub assigned_only : (target : Expr) (ts : List Token) (op : AssignOp) → (op ≡ assign.Join → IsNotFirst (is_word (codes "lambda")) ts) → (s : Stmt) (sign : Token)
+    → assignment_of sign ≡ Some op → SpellsAfter target (sign ∷ ts) s → IsAssigned op target ts s
 assigned_only target ts op other s sign assigns behind = go (assigned_is target (sign ∷ ts) s behind sign ts op refl assigns) where
   go : IsAssigned op target ts s ⊎ IsLambda op target ts s → IsAssigned op target ts s
   go (inl is) = is
-  go (inr is) = absurd (both_ways (is_word (codes "lambda") is.0) (subst (IsNotThere (is_word (codes "lambda"))) is.3 (other is.2)) is.4)
+  go (inr is) = absurd (both_ways (is_word (codes "lambda") is.0) (subst (IsNotFirst (is_word (codes "lambda"))) is.3 (other is.2)) is.4)
 
 -- `lambda` is joined
-pub joined_only : (target : Expr) (ts : List Token) (s : Stmt) (sign word : Token) → IsTrue (is_mark (codes "//=") sign) → IsTrue (is_word (codes "lambda") word)
-    → SpellsBehind target (sign ∷ word ∷ ts) s → IsJoined target ts s
+pub joined_only : (target : Expr) (ts : List Token) (s : Stmt) (sign word : Token) → IsTrue (is_symbol (codes "//=") sign) → IsTrue (is_word (codes "lambda") word)
+    → SpellsAfter target (sign ∷ word ∷ ts) s → IsJoined target ts s
 joined_only target ts s sign word mark lambda behind = go (assigned_is target (sign ∷ word ∷ ts) s behind sign (word ∷ ts) assign.Join refl (join_assigns sign mark)) where
   go : IsAssigned assign.Join target (word ∷ ts) s ⊎ IsLambda assign.Join target (word ∷ ts) s → IsJoined target ts s
   go (inl is) = absurd (lambda_begins word ts is.0 lambda is.1)
   go (inr is) = let same : is.1 ≡ ts = (let e = is.3 in cc) in subst (λ (ts : List Token). IsJoined target ts s) same is.5
 
-pub no_colon : (target : Expr) (ts : List Token) (s : Stmt) → IsNotThere (is_mark (codes ":")) ts → IsJoined target ts s → ⊥
-no_colon target ts s missing is = both_ways (is_mark (codes ":") is.0) (subst (IsNotThere (is_mark (codes ":"))) is.3 missing) is.4
+pub no_colon : (target : Expr) (ts : List Token) (s : Stmt) → IsNotFirst (is_symbol (codes ":")) ts → IsJoined target ts s → ⊥
+no_colon target ts s missing is = both_ways (is_symbol (codes ":") is.0) (subst (IsNotFirst (is_symbol (codes ":"))) is.3 missing) is.4
 
--- the value behind the colon
-pub joined_value : (target : Expr) (ts behind : List Token) (s : Stmt) → IsBehind (is_mark (codes ":")) ts behind → IsJoined target ts s
+-- the value after the colon
+pub joined_value : (target : Expr) (ts behind : List Token) (s : Stmt) → IsAfter (is_symbol (codes ":")) ts behind → IsJoined target ts s
     → (value : Expr) × IsExpression behind value × (s ≡ leaf.JoinLambda target value)
 joined_value target ts behind s there is =
     let front = there.1 in
@@ -245,53 +245,53 @@ joined_value target ts behind s there is =
     let same : is.1 ≡ behind = cc in
     (is.2, subst (λ ts. IsExpression ts is.2) same is.5, is.6)
 
-pub joined_found : (target : Expr) (ts behind : List Token) (value : Expr) → IsBehind (is_mark (codes ":")) ts behind → IsExpression behind value → (sign word : Token)
-    → IsTrue (is_mark (codes "//=") sign) → IsTrue (is_word (codes "lambda") word) → SpellsBehind target (sign ∷ word ∷ ts) (leaf.JoinLambda target value)
+pub joined_found : (target : Expr) (ts behind : List Token) (value : Expr) → IsAfter (is_symbol (codes ":")) ts behind → IsExpression behind value → (sign word : Token)
+    → IsTrue (is_symbol (codes "//=") sign) → IsTrue (is_word (codes "lambda") word) → SpellsAfter target (sign ∷ word ∷ ts) (leaf.JoinLambda target value)
 joined_found target ts behind value there spelled sign word mark lambda =
-    subst (λ ts. SpellsBehind target (sign ∷ word ∷ ts) (leaf.JoinLambda target value)) (sym there.1) (SpellsBehind.joined sign word there.0 behind value mark lambda there.2 spelled)
+    subst (λ ts. SpellsAfter target (sign ∷ word ∷ ts) (leaf.JoinLambda target value)) (sym there.1) (SpellsAfter.joined sign word there.0 behind value mark lambda there.2 spelled)
 
 -- ---- annotations
 
--- what stands behind an annotation: nothing, or a value
+-- what comes after an annotation: nothing, or a value
 pub data SpellsValue (target note : Expr) : List Token → Stmt → Type 0 where
   without : SpellsValue target note [] (leaf.Note target note None)
-  with_value : (sign : Token) (ts : List Token) (value : Expr) → IsTrue (is_mark (codes "=") sign) → IsExpression ts value
+  with_value : (sign : Token) (ts : List Token) (value : Expr) → IsTrue (is_symbol (codes "=") sign) → IsExpression ts value
       → SpellsValue target note (sign ∷ ts) (leaf.Note target note (Some value))
 
 value_ends : (target note : Expr) (rest : List Token) (s : Stmt) → SpellsValue target note rest s → Ends level.Conditional rest
 value_ends target note _ _ SpellsValue.without = tt
 value_ends target note _ _ (SpellsValue.with_value sign ts value is _) = ends_equals sign is
 
-noted_is : (target : Expr) (rest : List Token) (s : Stmt) → SpellsBehind target rest s → (colon : Token) (ts : List Token) → rest ≡ colon ∷ ts
-    → IsTrue (is_mark (codes ":") colon) → (note : Expr) × (after : List Token) × Begins IsExpression ts note after × SpellsValue target note after s
-noted_is target _ _ SpellsBehind.done colon ts is mark = cc
-noted_is target _ _ (SpellsBehind.assigned sign us op value assigns _) colon ts is mark =
+noted_is : (target : Expr) (rest : List Token) (s : Stmt) → SpellsAfter target rest s → (colon : Token) (ts : List Token) → rest ≡ colon ∷ ts
+    → IsTrue (is_symbol (codes ":") colon) → (note : Expr) × (after : List Token) × Begins IsExpression ts note after × SpellsValue target note after s
+noted_is target _ _ SpellsAfter.done colon ts is mark = cc
+noted_is target _ _ (SpellsAfter.assigned sign us op value assigns _) colon ts is mark =
     let one : sign ≡ colon = cc in
     let here = ap assignment_of one in
     let none = colon_assigns colon mark in
     cc
-noted_is target _ _ (SpellsBehind.joined sign word colon' us value joins _ _ _) colon ts is mark =
+noted_is target _ _ (SpellsAfter.joined sign word colon' us value joins _ _ _) colon ts is mark =
     let one : sign ≡ colon = cc in
     let here = ap assignment_of one in
     let none = colon_assigns colon mark in
     let assigns = join_assigns sign joins in
     cc
-noted_is target _ _ (SpellsBehind.noted colon' us note mark' spelled) colon ts is mark =
+noted_is target _ _ (SpellsAfter.noted colon' us note mark' spelled) colon ts is mark =
     let same : ts ≡ us = cc in
     (note, [], (us, same ∙ sym (append-nil us), spelled), SpellsValue.without)
-noted_is target _ _ (SpellsBehind.noted_value colon' sign us vs note value mark' spelled equals value_spelled) colon ts is mark =
+noted_is target _ _ (SpellsAfter.noted_value colon' sign us vs note value mark' spelled equals value_spelled) colon ts is mark =
     let same : ts ≡ us ++ sign ∷ vs = cc in
     (note, sign ∷ vs, (us, same, spelled), SpellsValue.with_value sign vs value equals value_spelled)
 
-pub value_read : (target tree : Expr) (ts rest : List Token) → IsOnly level.Conditional ts (Some (tree, rest)) → (s : Stmt) (colon : Token) → IsTrue (is_mark (codes ":") colon)
-    → SpellsBehind target (colon ∷ ts) s → SpellsValue target tree rest s
+pub value_read : (target tree : Expr) (ts rest : List Token) → IsOnly level.Conditional ts (Some (tree, rest)) → (s : Stmt) (colon : Token) → IsTrue (is_symbol (codes ":") colon)
+    → SpellsAfter target (colon ∷ ts) s → SpellsValue target tree rest s
 value_read target tree ts rest only s colon mark behind =
     let noted = noted_is target (colon ∷ ts) s behind colon ts refl mark in
     let same = only noted.0 noted.1 noted.2 (value_ends target noted.0 noted.1 s noted.3) in
     subst₂ (λ (e : Expr) (ts : List Token). SpellsValue target e ts s) same.0 same.1 noted.3
 
-pub no_note : (target : Expr) (ts : List Token) → IsOnly level.Conditional ts None → (s : Stmt) (colon : Token) → IsTrue (is_mark (codes ":") colon)
-    → SpellsBehind target (colon ∷ ts) s → ⊥
+pub no_note : (target : Expr) (ts : List Token) → IsOnly level.Conditional ts None → (s : Stmt) (colon : Token) → IsTrue (is_symbol (codes ":") colon)
+    → SpellsAfter target (colon ∷ ts) s → ⊥
 no_note target ts only s colon mark behind =
     let noted = noted_is target (colon ∷ ts) s behind colon ts refl mark in
     only noted.0 noted.1 noted.2 (value_ends target noted.0 noted.1 s noted.3)
@@ -300,11 +300,11 @@ pub value_none : (target note : Expr) (rest : List Token) (s : Stmt) → SpellsV
 value_none target note _ _ SpellsValue.without none = refl
 value_none target note _ _ (SpellsValue.with_value sign ts value _ _) none = cc
 
-pub value_missing : (target note : Expr) (rest : List Token) (s : Stmt) → SpellsValue target note rest s → (rest ≡ [] → ⊥) → IsNotThere (is_mark (codes "=")) rest → ⊥
+pub value_missing : (target note : Expr) (rest : List Token) (s : Stmt) → SpellsValue target note rest s → (rest ≡ [] → ⊥) → IsNotFirst (is_symbol (codes "=")) rest → ⊥
 value_missing target note _ _ SpellsValue.without some missing = some refl
-value_missing target note _ _ (SpellsValue.with_value sign ts value equals _) some missing = both_ways (is_mark (codes "=") sign) missing equals
+value_missing target note _ _ (SpellsValue.with_value sign ts value equals _) some missing = both_ways (is_symbol (codes "=") sign) missing equals
 
-pub value_some : (target note : Expr) (rest : List Token) (s : Stmt) → SpellsValue target note rest s → (behind : List Token) → IsBehind (is_mark (codes "=")) rest behind
+pub value_some : (target note : Expr) (rest : List Token) (s : Stmt) → SpellsValue target note rest s → (behind : List Token) → IsAfter (is_symbol (codes "=")) rest behind
     → (value : Expr) × IsExpression behind value × (s ≡ leaf.Note target note (Some value))
 value_some target note _ _ SpellsValue.without behind there = let front = there.1 in cc
 value_some target note _ _ (SpellsValue.with_value sign ts value equals spelled) behind there =
@@ -312,16 +312,16 @@ value_some target note _ _ (SpellsValue.with_value sign ts value equals spelled)
     let same : ts ≡ behind = cc in
     (value, subst (λ ts. IsExpression ts value) same spelled, refl)
 
-pub note_found : (target note : Expr) (ts rest : List Token) → Begins IsExpression ts note rest → rest ≡ [] → (colon : Token) → IsTrue (is_mark (codes ":") colon)
-    → SpellsBehind target (colon ∷ ts) (leaf.Note target note None)
-note_found target note ts rest begun none colon mark = SpellsBehind.noted colon ts note mark (whole_found ts rest note begun none)
+pub note_found : (target note : Expr) (ts rest : List Token) → Begins IsExpression ts note rest → rest ≡ [] → (colon : Token) → IsTrue (is_symbol (codes ":") colon)
+    → SpellsAfter target (colon ∷ ts) (leaf.Note target note None)
+note_found target note ts rest begun none colon mark = SpellsAfter.noted colon ts note mark (whole_found ts rest note begun none)
 
-pub noted_found : (target note value : Expr) (ts rest behind : List Token) → Begins IsExpression ts note rest → IsBehind (is_mark (codes "=")) rest behind → IsExpression behind value
-    → (colon : Token) → IsTrue (is_mark (codes ":") colon) → SpellsBehind target (colon ∷ ts) (leaf.Note target note (Some value))
+pub noted_found : (target note value : Expr) (ts rest behind : List Token) → Begins IsExpression ts note rest → IsAfter (is_symbol (codes "=")) rest behind → IsExpression behind value
+    → (colon : Token) → IsTrue (is_symbol (codes ":") colon) → SpellsAfter target (colon ∷ ts) (leaf.Note target note (Some value))
 noted_found target note value ts rest behind begun there spelled colon mark =
     let front : ts ≡ begun.0 ++ there.0 ∷ behind = begun.1 ∙ ap (λ us. begun.0 ++ us) there.1 in
-    subst (λ us. SpellsBehind target (colon ∷ us) (leaf.Note target note (Some value))) (sym front)
-    (SpellsBehind.noted_value colon there.0 begun.0 behind note value mark begun.2 there.2 spelled)
+    subst (λ us. SpellsAfter target (colon ∷ us) (leaf.Note target note (Some value))) (sym front)
+    (SpellsAfter.noted_value colon there.0 begun.0 behind note value mark begun.2 there.2 spelled)
 
 -- ---- the first word of a statement
 
@@ -412,14 +412,14 @@ formed _ _ (SpellsSimple.asserted_saying word comma ts strings e is spelled mark
     (word, ts ++ comma ∷ strings, e, comma ∷ strings, refl, (ts, refl, spelled), (mark, said), refl)
 formed _ _ (SpellsSimple.doc strings are) = formed_so Beginning.string strings leaf.Doc (strings_begin strings are) (are, refl)
 formed _ _ (SpellsSimple.assigned sign ts us op target value first is spelled) =
-    formed_expression _ _ (target, sign ∷ us, (ts, refl, first), SpellsBehind.assigned sign us op value is spelled)
+    formed_expression _ _ (target, sign ∷ us, (ts, refl, first), SpellsAfter.assigned sign us op value is spelled)
 formed _ _ (SpellsSimple.joined sign word colon ts us target value first is lambda mark spelled) =
-    formed_expression _ _ (target, sign ∷ word ∷ colon ∷ us, (ts, refl, first), SpellsBehind.joined sign word colon us value is lambda mark spelled)
+    formed_expression _ _ (target, sign ∷ word ∷ colon ∷ us, (ts, refl, first), SpellsAfter.joined sign word colon us value is lambda mark spelled)
 formed _ _ (SpellsSimple.noted colon ts us target note first is spelled) =
-    formed_expression _ _ (target, colon ∷ us, (ts, refl, first), SpellsBehind.noted colon us note is spelled)
+    formed_expression _ _ (target, colon ∷ us, (ts, refl, first), SpellsAfter.noted colon us note is spelled)
 formed _ _ (SpellsSimple.noted_value colon sign ts us vs target note value first is spelled equals valued) =
-    formed_expression _ _ (target, colon ∷ (us ++ sign ∷ vs), (ts, refl, first), SpellsBehind.noted_value colon sign us vs note value is spelled equals valued)
-formed _ _ (SpellsSimple.done ts e spelled) = formed_expression _ _ (e, [], (ts, sym (append-nil ts), spelled), SpellsBehind.done)
+    formed_expression _ _ (target, colon ∷ (us ++ sign ∷ vs), (ts, refl, first), SpellsAfter.noted_value colon sign us vs note value is spelled equals valued)
+formed _ _ (SpellsSimple.done ts e spelled) = formed_expression _ _ (e, [], (ts, sym (append-nil ts), spelled), SpellsAfter.done)
 
 -- ---- what a statement is, by its first token
 
@@ -467,7 +467,7 @@ other_first t ts s no_pass no_return no_assert no_strings spelled =
     cond_both (is_text t.kind) Beginning.string Beginning.other (λ k. FormOf k (t ∷ ts) s → SpellsWithExpression (t ∷ ts) s) (λ _ strings. absurd (no_strings strings.0)) (λ _ other. other)
     (subst (λ k. FormOf k (t ∷ ts) s) begins form)
 
--- none of the words stands first, and not all are strings
+-- none of the words comes first, and not all are strings
 pub simple-other : (all ts : List Token) (t : Token) → all ≡ t ∷ ts → is_word (codes "pass") t ≡ false → is_word (codes "return") t ≡ false
     → is_word (codes "assert") t ≡ false → (AreStrings all → ⊥) → (s : Stmt) → SpellsSimple all s → SpellsWithExpression all s
 simple-other all ts t front no_pass no_return no_assert no_strings s spelled =
@@ -475,13 +475,13 @@ simple-other all ts t front no_pass no_return no_assert no_strings s spelled =
     (other_first t ts s no_pass no_return no_assert (λ are. no_strings (subst AreStrings (sym front) are)) (subst (λ us. SpellsSimple us s) front spelled))
 
 -- a statement that begins with an expression is a simple one
-simple_of : (target : Expr) (rest : List Token) (s : Stmt) → SpellsBehind target rest s → (ts : List Token) → IsExpression ts target → SpellsSimple (ts ++ rest) s
-simple_of target _ _ SpellsBehind.done ts first = subst (λ us. SpellsSimple us (leaf.Do target)) (sym (append-nil ts)) (SpellsSimple.done ts target first)
-simple_of target _ _ (SpellsBehind.assigned sign us op value is spelled) ts first = SpellsSimple.assigned sign ts us op target value first is spelled
-simple_of target _ _ (SpellsBehind.joined sign word colon us value is lambda mark spelled) ts first =
+simple_of : (target : Expr) (rest : List Token) (s : Stmt) → SpellsAfter target rest s → (ts : List Token) → IsExpression ts target → SpellsSimple (ts ++ rest) s
+simple_of target _ _ SpellsAfter.done ts first = subst (λ us. SpellsSimple us (leaf.Do target)) (sym (append-nil ts)) (SpellsSimple.done ts target first)
+simple_of target _ _ (SpellsAfter.assigned sign us op value is spelled) ts first = SpellsSimple.assigned sign ts us op target value first is spelled
+simple_of target _ _ (SpellsAfter.joined sign word colon us value is lambda mark spelled) ts first =
     SpellsSimple.joined sign word colon ts us target value first is lambda mark spelled
-simple_of target _ _ (SpellsBehind.noted colon us note is spelled) ts first = SpellsSimple.noted colon ts us target note first is spelled
-simple_of target _ _ (SpellsBehind.noted_value colon sign us vs note value is spelled equals valued) ts first =
+simple_of target _ _ (SpellsAfter.noted colon us note is spelled) ts first = SpellsSimple.noted colon ts us target note first is spelled
+simple_of target _ _ (SpellsAfter.noted_value colon sign us vs note value is spelled equals valued) ts first =
     SpellsSimple.noted_value colon sign ts us vs target note value first is spelled equals valued
 
 pub simple_with : (all : List Token) (s : Stmt) → SpellsWithExpression all s → SpellsSimple all s

@@ -7,9 +7,9 @@ use Rattle.pm_syn.specs.declared.token.Token.{Token}
 use Rattle.pm_syn.specs.declared.token.TokenKind.{TokenKind}
 use Rattle.pm_syn.specs.declared.token.TokenKind.TheVariants as kind
 use Rattle.pm_grammar.specs.Expressions.{Spells}
-use Rattle.pm_grammar.specs.Fronts.{begins_with}
+use Rattle.pm_grammar.specs.Prefixes.{begins_with}
 use Rattle.pm_syn.specs.Names.{is_keyword}
-use Rattle.pm_grammar.specs.Marks.{is_mark, is_word}
+use Rattle.pm_grammar.specs.Tokens.{is_symbol, is_word}
 use Rattle.pm_grammar.specs.Statements.{AreStrings, SpellsSimple, passed, returned, asserted, asserted_saying, doc, assigned, joined, noted, noted_value, done}
 use Rattle.pm_grammar.specs.declared.level.Level.TheVariants as level
 use Rattle.pm_grammar.proofs.ExpressionStarts.{begins_more, opens, opens_expression}
@@ -57,7 +57,7 @@ no_simple_in s is = false≢true (opens_statement is)
 -- ---- tokens that are not one another
 
 -- no header's sign or word begins a simple statement
-pub no_simple_at : (token : Token) → IsTrue (is_mark (codes "@") token) → opens_simple token ≡ false
+pub no_simple_at : (token : Token) → IsTrue (is_symbol (codes "@") token) → opens_simple token ≡ false
 no_simple_at token is = by_mark (codes "@") token (λ t. opens_simple t ≡ false) is refl
 
 pub no_simple_from : (token : Token) → IsTrue (is_word (codes "from") token) → opens_simple token ≡ false

@@ -10,7 +10,7 @@ use Rattle.pm_grammar.specs.Reading.{Begins, Ends, IsOnly, is_suffix}
 use Rattle.pm_grammar.specs.Suffixes.{SpellsSuffix, IsOnlySuffix, begins_suffix}
 use Rattle.pm_grammar.specs.declared.level.Level.TheVariants as level
 
--- more suffixes behind an expression
+-- more suffixes after an expression
 pub data Suffixes : Expr → List Token → Expr → Type 0 where
   none : (a : Expr) → Suffixes a [] a
   next : (a b e : Expr) (ts us : List Token) → SpellsSuffix a ts b → Suffixes b us e → Suffixes a (ts ++ us) e
@@ -57,11 +57,11 @@ begins_longer all rest after a b begins suffix = (
   spells_longer begins.0 suffix.0 a b begins.2 suffix.2,
 )
 
--- each reading of the whole goes on from here
+-- each reading of the whole continues from here
 abbrev pub GoesOnSuffixes : List Token → Expr → List Token → Type 0
 GoesOnSuffixes all a rest = (e : Expr) (left : List Token) → Begins (Spells level.Postfix) all e left → Ends level.Postfix left → (us : List Token) × (rest ≡ us ++ left) × Suffixes a us e
 
--- nothing goes on with an atom
+-- nothing continues with an atom
 pub ends_atom : (rest : List Token) → Ends level.Atom rest
 ends_atom [] = tt
 ends_atom (t ∷ rest) = refl
@@ -79,7 +79,7 @@ no_atom all only e left begins ends =
     let split : all ≡ chain.0 ++ (chain.1 ++ left) = begins.1 ∙ ap (λ (us : List Token). us ++ left) chain.3 ∙ append_assoc chain.0 chain.1 left in
     only chain.2 (chain.1 ++ left) (chain.0, split, chain.4) (ends_atom (chain.1 ++ left))
 
--- where a suffix begins, an expression with suffixes doesn't end
+-- if a suffix begins, an expression with suffixes doesn't end
 ended : (rest left : List Token) → begins_suffix rest ≡ true → rest ≡ left → Ends level.Postfix left → ⊥
 ended [] left begins same ends = false≢true begins
 ended (t ∷ rest) [] begins same ends = cc

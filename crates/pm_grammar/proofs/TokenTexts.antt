@@ -1,4 +1,4 @@
--- Marks and words with their texts: what holds of the token with the text holds of the mark or the word.
+-- Symbols and words with their texts: what holds of the token with the text holds of the symbol or the word.
 use Rattle.std.proofs.Common.{◌≡◌, ℕ, true, IsTrue, List, bytes_eq, refl, sym, subst}
 use Rattle.std.proofs.Math.Path.{subst₂}
 use Rattle.std.proofs.lemmas.Bool.{and_parts, false≢true}
@@ -6,7 +6,7 @@ use Rattle.std.proofs.lemmas.Slice.Eq.{bytes_eq-Decides}
 use Rattle.pm_syn.specs.declared.token.Token.{Token}
 use Rattle.pm_syn.specs.declared.token.TokenKind.{TokenKind}
 use Rattle.pm_syn.specs.declared.token.TokenKind.TheVariants as kind
-use Rattle.pm_grammar.specs.Marks.{is_mark, is_name_kind, is_op, is_word}
+use Rattle.pm_grammar.specs.Tokens.{is_symbol, is_name_kind, is_op, is_word}
 
 -- the token with another kind and other bytes
 abbrev pub like : TokenKind → List ℕ → Token → Token
@@ -25,7 +25,7 @@ name_kind_is kind.Op is = absurd (false≢true is)
 name_kind_is (kind.Int number) is = absurd (false≢true is)
 name_kind_is kind.Str is = absurd (false≢true is)
 
-pub by_mark : (bytes : List ℕ) (t : Token) (P : Token → Type 0) → IsTrue (is_mark bytes t) → P (like kind.Op bytes t) → P t
+pub by_mark : (bytes : List ℕ) (t : Token) (P : Token → Type 0) → IsTrue (is_symbol bytes t) → P (like kind.Op bytes t) → P t
 by_mark bytes t P is holds =
     let parts = and_parts (is_op t.kind) (bytes_eq t.text bytes) is in
     subst₂ (λ (k : TokenKind) (text : List ℕ). P (like k text t)) (sym (op_is t.kind parts.0)) (sym ((bytes_eq-Decides t.text bytes).0 parts.1)) holds
@@ -39,8 +39,8 @@ by_word bytes t P is holds =
 pub by_string : (P : Token → Type 0) (t : Token) → t.kind ≡ kind.Str → P (like kind.Str t.text t) → P t
 by_string P t is holds = subst (λ (k : TokenKind). P (like k t.text t)) (sym is) holds
 
--- what a mark is
-pub of_mark : {A : Type 0} (bytes : List ℕ) (t : Token) (word : Token → A) (value : A) → IsTrue (is_mark bytes t) → word (like kind.Op bytes t) ≡ value → word t ≡ value
+-- what a symbol is
+pub of_mark : {A : Type 0} (bytes : List ℕ) (t : Token) (word : Token → A) (value : A) → IsTrue (is_symbol bytes t) → word (like kind.Op bytes t) ≡ value → word t ≡ value
 of_mark bytes t word value is same = by_mark bytes t (λ (t : Token). word t ≡ value) is same
 
 -- what a word is

@@ -5,7 +5,7 @@ use Rattle.pm_syn.specs.declared.expression.Expr.{Expr, Expr-F, fold-Expr}
 use Rattle.pm_syn.specs.declared.statement.Par.{Par}
 use Rattle.pm_syn.specs.declared.statement.Stmt.{Stmt, Stmt-F, fold-Stmt}
 
--- the greatest of some numbers, 0 where there are none
+-- the greatest of some numbers, 0 if there are none
 abbrev pub greatest : List ℕ → ℕ
 greatest [] = 0
 greatest (n ∷ others) = max n (greatest others)
@@ -46,31 +46,33 @@ depth_of_option (Some e) = depth_of e
 abbrev pub depth_of_parameter : Par → ℕ
 depth_of_parameter p = max (depth_of_option p.note) (depth_of_option p.default)
 
--- the depth of what may stand behind a header's colon
-abbrev pub depth_behind : Option ℕ → ℕ
-depth_behind None = 0
-depth_behind (Some depth) = depth
+-- the depth of the statement after a header's colon, if there is one
+abbrev pub depth_of_body : Option ℕ → ℕ
+depth_of_body None = 0
+depth_of_body (Some depth) = depth
 
--- the greatest depth of a statement's expressions, once the statement behind its colon has one
+-- the greatest depth of a statement's expressions, once the statement after its colon has one
 abbrev pub statement_over : Stmt-F ℕ → ℕ
 statement_over (Stmt-F.Import) = 0
 statement_over (Stmt-F.Doc) = 0
 statement_over (Stmt-F.Pass) = 0
 statement_over (Stmt-F.Class name base) = 0
-statement_over (Stmt-F.Def name has_self parameters note behind) = greatest (depth_behind behind ∷ depth_of_option note ∷ map depth_of_parameter parameters)
+statement_over (Stmt-F.Def name has_self parameters note body) =
+    greatest (depth_of_body body ∷ depth_of_option note ∷ map depth_of_parameter parameters)
 statement_over (Stmt-F.Mark name) = 0
 statement_over (Stmt-F.NonBlocking e) = depth_of e
 statement_over (Stmt-F.Return e) = depth_of e
 statement_over (Stmt-F.Assert e) = depth_of e
-statement_over (Stmt-F.If condition behind) = max (depth_of condition) (depth_behind behind)
-statement_over (Stmt-F.Elif condition behind) = max (depth_of condition) (depth_behind behind)
-statement_over (Stmt-F.Else behind) = depth_behind behind
-statement_over (Stmt-F.For name bounds behind) = greatest (depth_behind behind ∷ map depth_of bounds)
+statement_over (Stmt-F.If condition body) = max (depth_of condition) (depth_of_body body)
+statement_over (Stmt-F.Elif condition body) = max (depth_of condition) (depth_of_body body)
+statement_over (Stmt-F.Else body) = depth_of_body body
+statement_over (Stmt-F.For name bounds body) = greatest (depth_of_body body ∷ map depth_of bounds)
 statement_over (Stmt-F.Assign op target value) = max (depth_of target) (depth_of value)
 statement_over (Stmt-F.JoinLambda target value) = max (depth_of target) (depth_of value)
-statement_over (Stmt-F.Note target note value) = greatest (depth_of target ∷ depth_of note ∷ depth_of_option value ∷ [])
+statement_over (Stmt-F.Note target note value) =
+    greatest (depth_of target ∷ depth_of note ∷ depth_of_option value ∷ [])
 statement_over (Stmt-F.Do e) = depth_of e
 
--- the greatest depth of the expressions in a statement, 0 where there are none
+-- the greatest depth of the expressions in a statement, 0 if there are none
 abbrev pub depth_of_statement : Stmt → ℕ
 depth_of_statement = fold-Stmt ℕ statement_over

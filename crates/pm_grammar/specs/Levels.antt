@@ -5,7 +5,7 @@ use Rattle.pm_syn.specs.declared.expression.BinaryOp.TheVariants as binary
 use Rattle.pm_syn.specs.declared.expression.UnaryOp.{UnaryOp}
 use Rattle.pm_syn.specs.declared.expression.UnaryOp.TheVariants as unary
 use Rattle.pm_syn.specs.declared.token.Token.{Token}
-use Rattle.pm_grammar.specs.Marks.{is_mark, is_word}
+use Rattle.pm_grammar.specs.Tokens.{is_symbol, is_word}
 use Rattle.pm_grammar.specs.declared.level.Level.{Level}
 use Rattle.pm_grammar.specs.declared.level.Level.TheVariants as level
 
@@ -68,26 +68,30 @@ abbrev pub operator_at : Level → Token → Option BinaryOp
 operator_at level.Disjunction token = if is_word (codes "or") token then Some binary.Or else None
 operator_at level.Conjunction token = if is_word (codes "and") token then Some binary.And else None
 operator_at level.Comparison token =
-    if is_mark (codes "==") token then Some binary.Eq
-    else if is_mark (codes "!=") token then Some binary.Ne
-    else if is_mark (codes "<") token then Some binary.Lt
-    else if is_mark (codes "<=") token then Some binary.Le
-    else if is_mark (codes ">") token then Some binary.Gt
-    else if is_mark (codes ">=") token then Some binary.Ge
+    if is_symbol (codes "==") token then Some binary.Eq
+    else if is_symbol (codes "!=") token then Some binary.Ne
+    else if is_symbol (codes "<") token then Some binary.Lt
+    else if is_symbol (codes "<=") token then Some binary.Le
+    else if is_symbol (codes ">") token then Some binary.Gt
+    else if is_symbol (codes ">=") token then Some binary.Ge
     else None
-operator_at level.BitOr token = if is_mark (codes "|") token then Some binary.BitOr else None
-operator_at level.BitXor token = if is_mark (codes "^") token then Some binary.BitXor else None
-operator_at level.BitAnd token = if is_mark (codes "&") token then Some binary.BitAnd else None
+operator_at level.BitOr token = if is_symbol (codes "|") token then Some binary.BitOr else None
+operator_at level.BitXor token = if is_symbol (codes "^") token then Some binary.BitXor else None
+operator_at level.BitAnd token = if is_symbol (codes "&") token then Some binary.BitAnd else None
 operator_at level.Shift token =
-    if is_mark (codes "<<") token then Some binary.Shl else if is_mark (codes ">>") token then Some binary.Shr else None
-operator_at level.Sum token =
-    if is_mark (codes "+") token then Some binary.Add else if is_mark (codes "-") token then Some binary.Sub else None
-operator_at level.Product token =
-    if is_mark (codes "*") token then Some binary.Mul
-    else if is_mark (codes "//") token then Some binary.FloorDiv
-    else if is_mark (codes "%") token then Some binary.Mod
+    if is_symbol (codes "<<") token then Some binary.Shl
+    else if is_symbol (codes ">>") token then Some binary.Shr
     else None
-operator_at level.Power token = if is_mark (codes "**") token then Some binary.Pow else None
+operator_at level.Sum token =
+    if is_symbol (codes "+") token then Some binary.Add
+    else if is_symbol (codes "-") token then Some binary.Sub
+    else None
+operator_at level.Product token =
+    if is_symbol (codes "*") token then Some binary.Mul
+    else if is_symbol (codes "//") token then Some binary.FloorDiv
+    else if is_symbol (codes "%") token then Some binary.Mod
+    else None
+operator_at level.Power token = if is_symbol (codes "**") token then Some binary.Pow else None
 operator_at level.Conditional token = None
 operator_at level.Negation token = None
 operator_at level.Unary token = None
@@ -97,7 +101,7 @@ operator_at level.Atom token = None
 -- the operator before an operand that a token is, if it is one
 abbrev pub sign_of : Token → Option UnaryOp
 sign_of token =
-    if is_mark (codes "-") token then Some unary.Minus
-    else if is_mark (codes "+") token then Some unary.Plus
-    else if is_mark (codes "~") token then Some unary.Invert
+    if is_symbol (codes "-") token then Some unary.Minus
+    else if is_symbol (codes "+") token then Some unary.Plus
+    else if is_symbol (codes "~") token then Some unary.Invert
     else None

@@ -1,7 +1,7 @@
-pub mod Marks
+pub mod Tokens
 pub mod Levels
 pub mod Expressions
-pub mod Fronts
+pub mod Prefixes
 pub mod Reading
 pub mod Operations
 pub mod Suffixes
@@ -12,3 +12,5 @@ pub mod Laws
 pub mod Answers
 pub mod ExpressionStatements
 pub mod Headers
+pub mod Outcomes
+pub mod Readings

@@ -1,7 +1,7 @@
 //! How deep expressions are.
 //!
-//! An expression without parts, as a name, a number or `[]`, has depth 1, and any other 1 more than its deepest part. The
-//! test goes no deeper than the depth that it allows.
+//! An expression without parts, as a name, a number or `[]`, has depth 1. Any other has 1 more than its deepest part. The
+//! test visits no part that is deeper than the depth that it allows.
 ghost use Rattle.std.specs.Prelude.{◌≡◌, nat_le, map, option_map};
 ghost use Rattle.pm_grammar.specs.Depths as spec;
 
@@ -40,10 +40,10 @@ pub fn is_shallow(statement: &Stmt) -> bool
     }
 }
 
-/// Whether no expression in the statement behind a header's colon is deeper than `MAX_DEPTH`.
+/// Whether no expression in the statement after a header's colon is deeper than `MAX_DEPTH`.
 #[cycle(statement)]
 fn is_body_shallow(body: &Option<Boxed<Stmt>>) -> bool
-    ensures { result ≡ nat_le (spec.depth_behind (option_map spec.depth_of_statement body.now)) 64 }
+    ensures { result ≡ nat_le (spec.depth_of_body (option_map spec.depth_of_statement body.now)) 64 }
 {
     match body {
         Some(statement) => is_shallow(statement.get()),
@@ -51,7 +51,7 @@ fn is_body_shallow(body: &Option<Boxed<Stmt>>) -> bool
     }
 }
 
-/// Whether the annotations and the defaults of the parameters are at most so deep.
+/// Whether the annotations and the defaults of the parameters are at most this deep.
 fn are_parameters_within(parameters: &[Par], limit: u32) -> bool
     ensures { result ≡ nat_le (spec.greatest (map spec.depth_of_parameter parameters.now)) limit }
 {
@@ -65,7 +65,7 @@ fn are_parameters_within(parameters: &[Par], limit: u32) -> bool
     true
 }
 
-/// Whether the expression is at most so deep, if there is one.
+/// Whether the expression, if there is one, is at most this deep.
 fn is_option_within(tree: &Option<Expr>, limit: u32) -> bool
     ensures { result ≡ nat_le (spec.depth_of_option tree.now) limit }
 {
@@ -75,7 +75,7 @@ fn is_option_within(tree: &Option<Expr>, limit: u32) -> bool
     }
 }
 
-/// Whether the expression is at most so deep.
+/// Whether the expression is at most this deep.
 #[cycle(depth)]
 fn is_within(tree: &Expr, limit: u32) -> bool
     ensures { result ≡ nat_le (spec.depth_of tree.now) limit }
@@ -100,7 +100,7 @@ fn is_within(tree: &Expr, limit: u32) -> bool
     }
 }
 
-/// Whether each of the expressions is at most so deep.
+/// Whether each of the expressions is at most this deep.
 #[cycle(depth)]
 fn are_within(trees: &[Expr], limit: u32) -> bool
     ensures { result ≡ nat_le (spec.greatest (map spec.depth_of trees.now)) limit }
@@ -113,7 +113,7 @@ fn are_within(trees: &[Expr], limit: u32) -> bool
     true
 }
 
-/// Whether the value of each argument is at most so deep.
+/// Whether the value of each argument is at most this deep.
 #[cycle(depth)]
 fn are_arguments_within(arguments: &[Arg], limit: u32) -> bool
     ensures { result ≡ nat_le (spec.greatest (map spec.depth_of_argument arguments.now)) limit }

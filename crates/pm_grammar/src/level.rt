@@ -3,7 +3,7 @@ ghost use Rattle.std.specs.Prelude.{◌≡◌};
 ghost use Rattle.pm_grammar.specs.Levels as spec;
 
 /// A level of expressions, from the loosest to the tightest.
-#[derive(Clone, Copy, Debug, PartialEq, Eq)]
+#[derive(Clone, Copy)]
 pub(crate) enum Level {
     /// `a if c else b`.
     Conditional,
@@ -33,7 +33,7 @@ pub(crate) enum Level {
     Power,
     /// Attributes, calls, indexes and slices.
     Postfix,
-    /// Names, numbers, and what stands in brackets.
+    /// Names, numbers, and what is in brackets.
     Atom,
 }
 

@@ -1,35 +1,37 @@
-//! Reads a logical line, as `pm_syn` cuts a text into them, into the statement that it spells.
+//! Parses a logical line, as `pm_syn` cuts a text into lines, into the statement that its tokens spell.
 //!
-//! The contract of `parse_line`: the answer is the statement that the grammar in `specs/Statements.antt` and
-//! `specs/Expressions.antt` relates to the line's tokens, `Syntax` exactly where it relates none, `TooDeep` exactly where
-//! an expression in it is more than 64 deep, and `NoMemory` where memory ran out. `laws` says that it never relates two.
+//! The grammar is in `specs/Statements.antt` and `specs/Expressions.antt`. `parse_line` returns
 //!
-//! `statement` gives the statement however deep it is, and `is_shallow` measures it: whoever judges how lines stand below
-//! each other needs to know what a line says also where it is too deep. `is_word` tells a word before any of this.
+//! - the statement that the tokens spell,
+//! - `Syntax` if and only if they spell none,
+//! - `TooDeep` if and only if an expression in it is more than 64 deep,
+//! - `NoMemory` if memory ran out.
 //!
-//! `line_parser` holds the call and `fault` its faults. `header` and `simple` read statements, `operation` and `operand`
-//! the expressions in them, `operator` and `level` say which operators bind how tightly, `marks` names tokens, and
-//! `depth` measures what was read.
+//! `laws` says that tokens never spell two statements.
+//!
+//! The layout of lines depends on what a line says even if it is too deep. So `statement` returns the statement whatever
+//! its depth, and `is_shallow` measures it. `is_word` recognizes a word.
+//!
+//! `line_parser` has the call and `fault` its faults. `header` and `simple` read statements, `operation` and `operand`
+//! expressions, and `reading` says what those return. `operator` and `level` say how tightly operators bind, `tokens` names
+//! tokens, and `depth` measures what was read.
 #![tactic(auto)]
 
-#[cfg(test)]
-mod deep_line_tests;
 mod depth;
 mod fault;
 mod header;
 pub mod laws;
 mod level;
 mod line_parser;
-mod marks;
 mod operand;
 mod operation;
 mod operator;
+mod reading;
 mod simple;
-#[cfg(test)]
-mod tests;
+mod tokens;
 
 pub use depth::is_shallow;
 pub use fault::LineFault;
 pub use header::statement;
 pub use line_parser::parse_line;
-pub use marks::is_word;
+pub use tokens::is_word;

@@ -1,4 +1,4 @@
-//! Reading a logical line.
+//! Parsing a logical line.
 ghost use Rattle.std.specs.Prelude.{◌≡◌, ◌⊎◌, Result, Err};
 ghost use Rattle.pm_syn.specs.declared.statement.Stmt.{Stmt as TheStmt};
 ghost use Rattle.pm_grammar.specs.Answers.{IsLineAnswer};
@@ -13,8 +13,8 @@ use std::mem::drop;
 
 /// The statement that a logical line spells.
 ///
-/// `Syntax` comes exactly where the grammar relates no statement to the line's tokens, and `TooDeep` exactly where it
-/// relates one with an expression that is more than 64 deep.
+/// The fault is `Syntax` if and only if the line's tokens spell no statement, and `TooDeep` if and only if they spell one
+/// with an expression that is more than 64 deep.
 pub fn parse_line(alloc: Global, line: &Line) -> Result<Stmt, LineFault>
     ensures answer { (result ≡ Err LineFault.NoMemory) ⊎ IsLineAnswer line.now.tokens result }
     ensures only { (answer : Result TheStmt TheFault) → IsLineAnswer line.now.tokens answer → (result ≡ Err LineFault.NoMemory) ⊎ (result ≡ answer) }

@@ -1,187 +1,168 @@
-//! Reading expressions: operands, with the signs before them and the suffixes behind them.
-ghost use Rattle.std.specs.Prelude.{◌≡◌, ◌<◌, ◌≤◌, IfOk, IfSome, IsTrue, List, Option, Some, length, codes, MatchOption};
-ghost use Rattle.pm_syn.specs.declared.expression.Expr.{Expr as TheExpr};
-ghost use Rattle.pm_syn.specs.declared.token.Token.{Token as TheToken};
-ghost use Rattle.pm_grammar.specs.Expressions.{Spells, SpellsArgument, SpellsArguments, SpellsItems, SpellsRange};
-ghost use Rattle.pm_grammar.specs.Brackets.{IsItemsBehind, IsNoParameter, IsOnlyArgument, IsOnlyItems, IsParameter, SpellsAttribute, SpellsBounds, SpellsEach, SpellsGroup, SpellsLeaf, SpellsList, SpellsPlace};
-ghost use Rattle.pm_grammar.specs.Reading.{Begins, IsOnly, IsOnlyBefore, IsOnlyBeginning, read_of};
-ghost use Rattle.pm_grammar.specs.Operations.{GoesOnFrom, IsOperandLevel, operand_of};
-ghost use Rattle.pm_grammar.specs.Suffixes.{IsOnlySuffix, SpellsSuffix};
+//! Reading expressions: operands, with the signs before them and the suffixes after them.
+ghost use Rattle.std.specs.Prelude.{◌≡◌, IfOk, IsTrue, MatchOption, codes};
+ghost use Rattle.pm_grammar.specs.Expressions.{Spells, SpellsArgument, SpellsArguments, SpellsRange};
+ghost use Rattle.pm_grammar.specs.Brackets.{IsItemsAfter, IsNoParameter, IsOnlyItems, IsParameter, SpellsAttribute, SpellsBounds, SpellsEach, SpellsGroup, SpellsLeaf, SpellsList, SpellsSubscript, ends_argument};
+ghost use Rattle.pm_grammar.specs.Suffixes.{SpellsSuffix};
 ghost use Rattle.pm_grammar.specs.Suffixes as suffixes;
-ghost use Rattle.pm_grammar.specs.Levels as levels;
-ghost use Rattle.pm_grammar.specs.Marks as marks;
 ghost use Rattle.pm_grammar.specs.declared.level.Level.TheVariants as level;
+ghost use Rattle.pm_grammar.specs.Outcomes.{Gives, GivesEach};
+ghost use Rattle.pm_grammar.specs.Readings.{KeepsOrShortens, Leaves, Reads, ReadsEach, ReadsEachBefore, ReadsEachExpression, ReadsEachUpTo, Shortens};
 
-use crate::marks::{
-    after_mark, after_name, after_word, begins_with_mark, is_mark, is_name, is_word,
-};
-use crate::operation::{Read, expression};
+use crate::operation::expression;
 use crate::operator::sign_of;
+use crate::reading::{ReadFault, Reading};
+use crate::tokens::{
+    after_name, after_symbol, after_word, begins_with_symbol, is_name, is_symbol, is_word,
+};
 use pm_io::{Boxed, List, NoMemory, Text};
 use pm_syn::{Arg, BinaryOp, Expr, Token, TokenKind, UnaryOp};
 use std::alloc::Global;
 
 /// Reads an operand with the signs before it.
 #[cycle(parse)]
-pub(crate) fn signed(alloc: Global, tokens: &[Token]) -> Read<'_, Boxed<Expr>>
-    ensures found { IfOk result (λ o. IfSome o (λ p. Begins (Spells level.Unary) tokens.now p.0 p.1.now)) }
-    ensures only { IfOk result (λ o. IsOnly level.Unary tokens.now (read_of o)) }
-    ensures shorter { IfOk result (λ o. IfSome o (λ p. length p.1.now < length tokens.now)) }
+pub(crate) fn signed(alloc: Global, tokens: &[Token]) -> Reading<'_, Boxed<Expr>>
+    ensures found { Reads (Spells level.Unary) tokens.now result }
+    ensures only { ReadsEachExpression level.Unary tokens.now result }
+    ensures shorter { Shortens tokens.now result }
 {
-    let Some((first, behind)) = tokens.split_first() else {
-        return Ok(None);
+    let Some((first, tail)) = tokens.split_first() else {
+        return Err(ReadFault::NotSpelled);
     };
     let Some(sign) = sign_of(first) else {
         return power(alloc, tokens);
     };
-    let Some((operand, rest)) = signed(alloc, behind)? else {
-        return Ok(None);
-    };
-    Ok(Some((Boxed::new(alloc, Expr::Unary(sign, operand))?, rest)))
+    let (operand, rest) = signed(alloc, tail)?;
+    Ok((Boxed::new(alloc, Expr::Unary(sign, operand))?, rest))
 }
 
 /// Reads an operand with its suffixes, and its exponent.
 #[cycle(parse)]
-fn power(alloc: Global, tokens: &[Token]) -> Read<'_, Boxed<Expr>>
-    ensures found { IfOk result (λ o. IfSome o (λ p. Begins (Spells level.Power) tokens.now p.0 p.1.now)) }
-    ensures only { IfOk result (λ o. IsOnly level.Power tokens.now (read_of o)) }
-    ensures shorter { IfOk result (λ o. IfSome o (λ p. length p.1.now < length tokens.now)) }
+fn power(alloc: Global, tokens: &[Token]) -> Reading<'_, Boxed<Expr>>
+    ensures found { Reads (Spells level.Power) tokens.now result }
+    ensures only { ReadsEachExpression level.Power tokens.now result }
+    ensures shorter { Shortens tokens.now result }
 {
-    let Some((base, rest)) = suffixed(alloc, tokens)? else {
-        return Ok(None);
+    let (base, rest) = suffixed(alloc, tokens)?;
+    let Some(tail) = after_symbol(rest, b"**") else {
+        return Ok((base, rest));
     };
-    let Some(behind) = after_mark(rest, b"**") else {
-        return Ok(Some((base, rest)));
-    };
-    let Some((exponent, rest)) = signed(alloc, behind)? else {
-        return Ok(None);
-    };
-    Ok(Some((
+    let (exponent, rest) = signed(alloc, tail)?;
+    Ok((
         Boxed::new(alloc, Expr::Binary(BinaryOp::Pow, base, exponent))?,
         rest,
-    )))
+    ))
 }
 
 /// Reads an atom with its attributes, calls, indexes and slices.
 #[cycle(parse)]
-fn suffixed(alloc: Global, tokens: &[Token]) -> Read<'_, Boxed<Expr>>
-    ensures found { IfOk result (λ o. IfSome o (λ p. Begins (Spells level.Postfix) tokens.now p.0 p.1.now)) }
-    ensures only { IfOk result (λ o. IsOnly level.Postfix tokens.now (read_of o)) }
-    ensures shorter { IfOk result (λ o. IfSome o (λ p. length p.1.now < length tokens.now)) }
+fn suffixed(alloc: Global, tokens: &[Token]) -> Reading<'_, Boxed<Expr>>
+    ensures found { Reads (Spells level.Postfix) tokens.now result }
+    ensures only { ReadsEachExpression level.Postfix tokens.now result }
+    ensures shorter { Shortens tokens.now result }
 {
-    let Some((mut tree, mut rest)) = atom(alloc, tokens)? else {
-        return Ok(None);
-    };
+    let (mut tree, mut rest) = atom(alloc, tokens)?;
     'suffixes: while begins_suffix(rest) {
-        let Some((longer, after)) = suffix(alloc, tree, rest)? else {
-            return Ok(None);
-        };
+        let (longer, after) = suffix(alloc, tree, rest)?;
         tree = longer;
         rest = after;
     }
-    Ok(Some((tree, rest)))
+    Ok((tree, rest))
 }
 
-/// Whether an attribute, a call, an index or a slice begins there.
+/// Whether the tokens begin an attribute, a call, an index or a slice.
 fn begins_suffix(tokens: &[Token]) -> bool
     ensures { result ≡ suffixes.begins_suffix tokens.now }
 {
     match tokens.first() {
-        Some(first) => is_mark(b".", first) || is_mark(b"(", first) || is_mark(b"[", first),
+        Some(first) => is_symbol(b".", first) || is_symbol(b"(", first) || is_symbol(b"[", first),
         None => false,
     }
 }
 
 /// Reads one suffix of an expression.
 #[cycle(parse)]
-fn suffix(alloc: Global, tree: Boxed<Expr>, tokens: &[Token]) -> Read<'_, Boxed<Expr>>
+fn suffix(alloc: Global, tree: Boxed<Expr>, tokens: &[Token]) -> Reading<'_, Boxed<Expr>>
     requires { IsTrue (suffixes.begins_suffix tokens.now) }
-    ensures found { IfOk result (λ o. IfSome o (λ p. Begins (SpellsSuffix tree) tokens.now p.0 p.1.now)) }
-    ensures only { IfOk result (λ o. IsOnlySuffix tree tokens.now (read_of o)) }
-    ensures shorter { IfOk result (λ o. IfSome o (λ p. length p.1.now < length tokens.now)) }
+    ensures found { Reads (SpellsSuffix tree) tokens.now result }
+    ensures only { ReadsEach (SpellsSuffix tree) tokens.now result }
+    ensures shorter { Shortens tokens.now result }
 {
-    if let Some(behind) = after_mark(tokens, b".") {
-        return attribute(alloc, tree, behind);
+    if let Some(tail) = after_symbol(tokens, b".") {
+        return attribute(alloc, tree, tail);
     }
-    if let Some(behind) = after_mark(tokens, b"(") {
-        let Some((arguments, rest)) = arguments(alloc, behind)? else {
-            return Ok(None);
+    if let Some(tail) = after_symbol(tokens, b"(") {
+        let (arguments, rest) = arguments(alloc, tail)?;
+        let Some(rest) = after_symbol(rest, b")") else {
+            return Err(ReadFault::NotSpelled);
         };
-        let Some(rest) = after_mark(rest, b")") else {
-            return Ok(None);
-        };
-        return Ok(Some((Boxed::new(alloc, Expr::Call(tree, arguments))?, rest)));
+        return Ok((Boxed::new(alloc, Expr::Call(tree, arguments))?, rest));
     }
-    match after_mark(tokens, b"[") {
-        Some(behind) => place(alloc, tree, behind),
-        None => Ok(None),
+    match after_symbol(tokens, b"[") {
+        Some(tail) => subscript(alloc, tree, tail),
+        None => Err(ReadFault::NotSpelled),
     }
 }
 
-/// Reads the name of an attribute behind its dot.
-fn attribute(alloc: Global, tree: Boxed<Expr>, tokens: &[Token]) -> Read<'_, Boxed<Expr>>
-    ensures found { IfOk result (λ o. IfSome o (λ p. Begins (SpellsAttribute tree) tokens.now p.0 p.1.now)) }
-    ensures only { IfOk result (λ o. IsOnlyBeginning (SpellsAttribute tree) tokens.now (read_of o)) }
-    ensures shorter { IfOk result (λ o. IfSome o (λ p. length p.1.now < length tokens.now)) }
+/// Reads the name of an attribute after its dot.
+fn attribute(alloc: Global, tree: Boxed<Expr>, tokens: &[Token]) -> Reading<'_, Boxed<Expr>>
+    ensures found { Reads (SpellsAttribute tree) tokens.now result }
+    ensures only { ReadsEach (SpellsAttribute tree) tokens.now result }
+    ensures shorter { Shortens tokens.now result }
 {
     let Some((name, rest)) = after_name(tokens) else {
-        return Ok(None);
+        return Err(ReadFault::NotSpelled);
     };
     let name = Text::from_slice(alloc, name.text.as_slice())?;
-    Ok(Some((Boxed::new(alloc, Expr::Attr(tree, name))?, rest)))
+    Ok((Boxed::new(alloc, Expr::Attr(tree, name))?, rest))
 }
 
-/// Reads an index or the bounds of a slice behind the opening bracket.
+/// Reads an index or the bounds of a slice after the opening bracket.
 #[cycle(parse)]
-fn place(alloc: Global, tree: Boxed<Expr>, tokens: &[Token]) -> Read<'_, Boxed<Expr>>
-    ensures found { IfOk result (λ o. IfSome o (λ p. Begins (SpellsPlace tree) tokens.now p.0 p.1.now)) }
-    ensures only { IfOk result (λ o. IsOnlyBeginning (SpellsPlace tree) tokens.now (read_of o)) }
-    ensures shorter { IfOk result (λ o. IfSome o (λ p. length p.1.now < length tokens.now)) }
+fn subscript(alloc: Global, tree: Boxed<Expr>, tokens: &[Token]) -> Reading<'_, Boxed<Expr>>
+    ensures found { Reads (SpellsSubscript tree) tokens.now result }
+    ensures only { ReadsEach (SpellsSubscript tree) tokens.now result }
+    ensures shorter { Shortens tokens.now result }
 {
-    let Some((low, rest)) = expression(alloc, tokens)? else {
-        return Ok(None);
-    };
-    if let Some(rest) = after_mark(rest, b"]") {
-        return Ok(Some((Boxed::new(alloc, Expr::Index(tree, low))?, rest)));
+    let (low, rest) = expression(alloc, tokens)?;
+    if let Some(rest) = after_symbol(rest, b"]") {
+        return Ok((Boxed::new(alloc, Expr::Index(tree, low))?, rest));
     }
-    let Some(behind) = after_mark(rest, b":") else {
-        return Ok(None);
+    let Some(tail) = after_symbol(rest, b":") else {
+        return Err(ReadFault::NotSpelled);
     };
-    let Some((high, rest)) = expression(alloc, behind)? else {
-        return Ok(None);
+    let (high, rest) = expression(alloc, tail)?;
+    let Some(rest) = after_symbol(rest, b"]") else {
+        return Err(ReadFault::NotSpelled);
     };
-    let Some(rest) = after_mark(rest, b"]") else {
-        return Ok(None);
-    };
-    Ok(Some((Boxed::new(alloc, Expr::Slice(tree, low, high))?, rest)))
+    Ok((Boxed::new(alloc, Expr::Slice(tree, low, high))?, rest))
 }
 
-/// Reads a name, a number, a truth value, or what stands in brackets.
+/// Reads a name, a number, a truth value, or what is in brackets.
 #[cycle(parse)]
-fn atom(alloc: Global, tokens: &[Token]) -> Read<'_, Boxed<Expr>>
-    ensures found { IfOk result (λ o. IfSome o (λ p. Begins (Spells level.Atom) tokens.now p.0 p.1.now)) }
-    ensures only { IfOk result (λ o. IsOnly level.Atom tokens.now (read_of o)) }
-    ensures shorter { IfOk result (λ o. IfSome o (λ p. length p.1.now < length tokens.now)) }
+fn atom(alloc: Global, tokens: &[Token]) -> Reading<'_, Boxed<Expr>>
+    ensures found { Reads (Spells level.Atom) tokens.now result }
+    ensures only { ReadsEachExpression level.Atom tokens.now result }
+    ensures shorter { Shortens tokens.now result }
 {
-    if let Some(behind) = after_mark(tokens, b"(") {
-        return group(alloc, behind);
+    if let Some(tail) = after_symbol(tokens, b"(") {
+        return group(alloc, tail);
     }
-    if let Some(behind) = after_mark(tokens, b"[") {
-        return list(alloc, behind);
+    if let Some(tail) = after_symbol(tokens, b"[") {
+        return list(alloc, tail);
     }
     let Some((first, rest)) = tokens.split_first() else {
-        return Ok(None);
+        return Err(ReadFault::NotSpelled);
     };
     match leaf(alloc, first)? {
-        Some(tree) => Ok(Some((Boxed::new(alloc, tree)?, rest))),
-        None => Ok(None),
+        Some(tree) => Ok((Boxed::new(alloc, tree)?, rest)),
+        None => Err(ReadFault::NotSpelled),
     }
 }
 
 /// The expression that one token spells, if it spells one.
 fn leaf(alloc: Global, token: &Token) -> Result<Option<Expr>, NoMemory>
-    ensures found { IfOk result (λ o. IfSome o (λ e. SpellsLeaf token.now e)) }
-    ensures only { IfOk result (λ o. (e : TheExpr) → SpellsLeaf token.now e → o ≡ Some e) }
+    ensures found { Gives (SpellsLeaf token.now) result }
+    ensures only { GivesEach (SpellsLeaf token.now) result }
 {
     if is_name(token) {
         return Ok(Some(Expr::Name(Text::from_slice(alloc, token.text.as_slice())?)));
@@ -198,202 +179,180 @@ fn leaf(alloc: Global, token: &Token) -> Result<Option<Expr>, NoMemory>
     }
 }
 
-/// Reads an expression behind an opening parenthesis, and the closing one.
+/// Reads an expression after an opening parenthesis, and the closing one.
 #[cycle(parse)]
-fn group(alloc: Global, tokens: &[Token]) -> Read<'_, Boxed<Expr>>
-    ensures found { IfOk result (λ o. IfSome o (λ p. Begins SpellsGroup tokens.now p.0 p.1.now)) }
-    ensures only { IfOk result (λ o. IsOnlyBeginning SpellsGroup tokens.now (read_of o)) }
-    ensures shorter { IfOk result (λ o. IfSome o (λ p. length p.1.now < length tokens.now)) }
+fn group(alloc: Global, tokens: &[Token]) -> Reading<'_, Boxed<Expr>>
+    ensures found { Reads SpellsGroup tokens.now result }
+    ensures only { ReadsEach SpellsGroup tokens.now result }
+    ensures shorter { Shortens tokens.now result }
 {
-    let Some((tree, rest)) = expression(alloc, tokens)? else {
-        return Ok(None);
+    let (tree, rest) = expression(alloc, tokens)?;
+    let Some(rest) = after_symbol(rest, b")") else {
+        return Err(ReadFault::NotSpelled);
     };
-    let Some(rest) = after_mark(rest, b")") else {
-        return Ok(None);
-    };
-    Ok(Some((tree, rest)))
+    Ok((tree, rest))
 }
 
-/// Reads a list behind its opening bracket: its elements, or one expression for each number of a range.
+/// Reads a list after its opening bracket: its elements, or one expression for each number of a range.
 #[cycle(parse)]
-fn list(alloc: Global, tokens: &[Token]) -> Read<'_, Boxed<Expr>>
-    ensures found { IfOk result (λ o. IfSome o (λ p. Begins SpellsList tokens.now p.0 p.1.now)) }
-    ensures only { IfOk result (λ o. IsOnlyBeginning SpellsList tokens.now (read_of o)) }
-    ensures shorter { IfOk result (λ o. IfSome o (λ p. length p.1.now < length tokens.now)) }
+fn list(alloc: Global, tokens: &[Token]) -> Reading<'_, Boxed<Expr>>
+    ensures found { Reads SpellsList tokens.now result }
+    ensures only { ReadsEach SpellsList tokens.now result }
+    ensures shorter { Shortens tokens.now result }
 {
-    if let Some(rest) = after_mark(tokens, b"]") {
-        return Ok(Some((Boxed::new(alloc, Expr::Items(List::new(alloc)))?, rest)));
+    if let Some(rest) = after_symbol(tokens, b"]") {
+        return Ok((Boxed::new(alloc, Expr::Items(List::new(alloc)))?, rest));
     }
-    let Some((first, rest)) = expression(alloc, tokens)? else {
-        return Ok(None);
-    };
-    if let Some(behind) = after_word(rest, b"for") {
-        return each(alloc, first, behind);
+    let (first, rest) = expression(alloc, tokens)?;
+    if let Some(tail) = after_word(rest, b"for") {
+        return each(alloc, first, tail);
     }
-    let Some((items, rest)) = items_behind(alloc, first.into_inner(), rest)? else {
-        return Ok(None);
+    let (items, rest) = more_items(alloc, first.into_inner(), rest)?;
+    let Some(rest) = after_symbol(rest, b"]") else {
+        return Err(ReadFault::NotSpelled);
     };
-    let Some(rest) = after_mark(rest, b"]") else {
-        return Ok(None);
-    };
-    Ok(Some((Boxed::new(alloc, Expr::Items(items))?, rest)))
+    Ok((Boxed::new(alloc, Expr::Items(items))?, rest))
 }
 
-/// Reads the elements of a list behind its first one; a comma may follow the last.
+/// Reads the elements of a list after the first one. A comma may follow the last.
 #[cycle(parse)]
-fn items_behind(alloc: Global, first: Expr, tokens: &[Token]) -> Read<'_, List<Expr>>
-    ensures found { IfOk result (λ o. IfSome o (λ p. IsItemsBehind first tokens.now p.0 p.1.now)) }
-    ensures only { IfOk result (λ o. IsOnlyItems first tokens.now (read_of o)) }
-    ensures no_longer { IfOk result (λ o. IfSome o (λ p. length p.1.now ≤ length tokens.now)) }
+fn more_items(alloc: Global, first: Expr, tokens: &[Token]) -> Reading<'_, List<Expr>>
+    ensures found { IfOk result (λ p. IsItemsAfter first tokens.now p.0 p.1.now) }
+    ensures only { Leaves (IsOnlyItems first tokens.now) result }
+    ensures no_longer { KeepsOrShortens tokens.now result }
 {
     let mut items = List::new(alloc);
     items.push(first)?;
     let mut rest = tokens;
-    'items: while let Some(behind) = after_mark(rest, b",") {
-        if begins_with_mark(behind, b"]") {
-            return Ok(Some((items, behind)));
+    'items: while let Some(tail) = after_symbol(rest, b",") {
+        if begins_with_symbol(tail, b"]") {
+            return Ok((items, tail));
         }
-        let Some((item, after)) = expression(alloc, behind)? else {
-            return Ok(None);
-        };
+        let (item, after) = expression(alloc, tail)?;
         items.push(item.into_inner())?;
         rest = after;
     }
-    Ok(Some((items, rest)))
+    Ok((items, rest))
 }
 
-/// Reads what stands behind `for` in a list: the name and the range, up to the closing bracket.
+/// Reads what comes after `for` in a list: the name, the range and the closing bracket.
 #[cycle(parse)]
-fn each(alloc: Global, tree: Boxed<Expr>, tokens: &[Token]) -> Read<'_, Boxed<Expr>>
-    ensures found { IfOk result (λ o. IfSome o (λ p. Begins (SpellsEach tree) tokens.now p.0 p.1.now)) }
-    ensures only { IfOk result (λ o. IsOnlyBeginning (SpellsEach tree) tokens.now (read_of o)) }
-    ensures shorter { IfOk result (λ o. IfSome o (λ p. length p.1.now < length tokens.now)) }
+fn each(alloc: Global, tree: Boxed<Expr>, tokens: &[Token]) -> Reading<'_, Boxed<Expr>>
+    ensures found { Reads (SpellsEach tree) tokens.now result }
+    ensures only { ReadsEach (SpellsEach tree) tokens.now result }
+    ensures shorter { Shortens tokens.now result }
 {
-    let Some((numbers, rest)) = range(alloc, tokens)? else {
-        return Ok(None);
-    };
-    let Some(rest) = after_mark(rest, b"]") else {
-        return Ok(None);
+    let (numbers, rest) = range(alloc, tokens)?;
+    let Some(rest) = after_symbol(rest, b"]") else {
+        return Err(ReadFault::NotSpelled);
     };
     let (name, bounds) = numbers;
-    Ok(Some((Boxed::new(alloc, Expr::Each(tree, name, bounds))?, rest)))
+    Ok((Boxed::new(alloc, Expr::Each(tree, name, bounds))?, rest))
 }
 
 /// Reads `NAME in range( .. )`.
 #[cycle(parse)]
-pub(crate) fn range(alloc: Global, tokens: &[Token]) -> Read<'_, (Text, List<Expr>)>
-    ensures found { IfOk result (λ o. IfSome o (λ p. Begins SpellsRange tokens.now p.0 p.1.now)) }
-    ensures only { IfOk result (λ o. IsOnlyBeginning SpellsRange tokens.now (read_of o)) }
-    ensures shorter { IfOk result (λ o. IfSome o (λ p. length p.1.now < length tokens.now)) }
+pub(crate) fn range(alloc: Global, tokens: &[Token]) -> Reading<'_, (Text, List<Expr>)>
+    ensures found { Reads SpellsRange tokens.now result }
+    ensures only { ReadsEach SpellsRange tokens.now result }
+    ensures shorter { Shortens tokens.now result }
 {
     let Some((name, rest)) = after_name(tokens) else {
-        return Ok(None);
+        return Err(ReadFault::NotSpelled);
     };
     let Some(rest) = after_word(rest, b"in") else {
-        return Ok(None);
+        return Err(ReadFault::NotSpelled);
     };
     let Some(rest) = after_word(rest, b"range") else {
-        return Ok(None);
+        return Err(ReadFault::NotSpelled);
     };
-    let Some(rest) = after_mark(rest, b"(") else {
-        return Ok(None);
+    let Some(rest) = after_symbol(rest, b"(") else {
+        return Err(ReadFault::NotSpelled);
     };
-    let Some((bounds, rest)) = bounds(alloc, rest)? else {
-        return Ok(None);
+    let (bounds, rest) = bounds(alloc, rest)?;
+    let Some(rest) = after_symbol(rest, b")") else {
+        return Err(ReadFault::NotSpelled);
     };
-    let Some(rest) = after_mark(rest, b")") else {
-        return Ok(None);
-    };
-    Ok(Some((
+    Ok((
         (Text::from_slice(alloc, name.text.as_slice())?, bounds),
         rest,
-    )))
+    ))
 }
 
 /// Reads the arguments of `range`: one to three.
 #[cycle(parse)]
-fn bounds(alloc: Global, tokens: &[Token]) -> Read<'_, List<Expr>>
-    ensures found { IfOk result (λ o. IfSome o (λ p. Begins SpellsBounds tokens.now p.0 p.1.now)) }
-    ensures only { IfOk result (λ o. IsOnlyBefore SpellsBounds (codes ")") tokens.now (read_of o)) }
-    ensures no_longer { IfOk result (λ o. IfSome o (λ p. length p.1.now ≤ length tokens.now)) }
+fn bounds(alloc: Global, tokens: &[Token]) -> Reading<'_, List<Expr>>
+    ensures found { Reads SpellsBounds tokens.now result }
+    ensures only { ReadsEachBefore SpellsBounds (codes ")") tokens.now result }
+    ensures no_longer { KeepsOrShortens tokens.now result }
 {
-    let Some((first, mut rest)) = expression(alloc, tokens)? else {
-        return Ok(None);
-    };
+    let (first, mut rest) = expression(alloc, tokens)?;
     let mut bounds = List::new(alloc);
     bounds.push(first.into_inner())?;
-    'bounds: while let Some(behind) = after_mark(rest, b",") {
-        let Some((bound, after)) = expression(alloc, behind)? else {
-            return Ok(None);
-        };
+    'bounds: while let Some(tail) = after_symbol(rest, b",") {
+        let (bound, after) = expression(alloc, tail)?;
         if bounds.len() == 3 {
-            return Ok(None);
+            return Err(ReadFault::NotSpelled);
         }
         bounds.push(bound.into_inner())?;
         rest = after;
     }
-    Ok(Some((bounds, rest)))
+    Ok((bounds, rest))
 }
 
-/// Reads the arguments of a call up to its closing parenthesis; a comma may follow the last.
+/// Reads the arguments of a call up to its closing parenthesis. A comma may follow the last.
 #[cycle(parse)]
-fn arguments(alloc: Global, tokens: &[Token]) -> Read<'_, List<Arg>>
-    ensures found { IfOk result (λ o. IfSome o (λ p. Begins SpellsArguments tokens.now p.0 p.1.now)) }
-    ensures only { IfOk result (λ o. IsOnlyBefore SpellsArguments (codes ")") tokens.now (read_of o)) }
-    ensures no_longer { IfOk result (λ o. IfSome o (λ p. length p.1.now ≤ length tokens.now)) }
+fn arguments(alloc: Global, tokens: &[Token]) -> Reading<'_, List<Arg>>
+    ensures found { Reads SpellsArguments tokens.now result }
+    ensures only { ReadsEachBefore SpellsArguments (codes ")") tokens.now result }
+    ensures no_longer { KeepsOrShortens tokens.now result }
 {
     let mut arguments = List::new(alloc);
     let mut rest = tokens;
-    'arguments: while !begins_with_mark(rest, b")") {
-        let Some((argument, after)) = argument(alloc, rest)? else {
-            return Ok(None);
-        };
+    'arguments: while !begins_with_symbol(rest, b")") {
+        let (argument, after) = argument(alloc, rest)?;
         arguments.push(argument)?;
-        match after_mark(after, b",") {
-            Some(behind) => rest = behind,
-            None => return Ok(Some((arguments, after))),
+        match after_symbol(after, b",") {
+            Some(tail) => rest = tail,
+            None => return Ok((arguments, after)),
         }
     }
-    Ok(Some((arguments, rest)))
+    Ok((arguments, rest))
 }
 
-/// Reads an argument, with the name of its parameter or without.
+/// Reads an argument, with or without the name of its parameter.
 #[cycle(parse)]
-fn argument(alloc: Global, tokens: &[Token]) -> Read<'_, Arg>
-    ensures found { IfOk result (λ o. IfSome o (λ p. Begins SpellsArgument tokens.now p.0 p.1.now)) }
-    ensures only { IfOk result (λ o. IsOnlyArgument tokens.now (read_of o)) }
-    ensures shorter { IfOk result (λ o. IfSome o (λ p. length p.1.now < length tokens.now)) }
+fn argument(alloc: Global, tokens: &[Token]) -> Reading<'_, Arg>
+    ensures found { Reads SpellsArgument tokens.now result }
+    ensures only { ReadsEachUpTo SpellsArgument ends_argument tokens.now result }
+    ensures shorter { Shortens tokens.now result }
 {
-    let Some((name, behind)) = parameter_name(tokens) else {
-        let Some((value, rest)) = expression(alloc, tokens)? else {
-            return Ok(None);
-        };
-        return Ok(Some((
+    let Some((name, tail)) = parameter_name(tokens) else {
+        let (value, rest) = expression(alloc, tokens)?;
+        return Ok((
             Arg {
                 name: None,
                 value: value.into_inner(),
             },
             rest,
-        )));
+        ));
     };
-    let Some((value, rest)) = expression(alloc, behind)? else {
-        return Ok(None);
-    };
+    let (value, rest) = expression(alloc, tail)?;
     let name = Text::from_slice(alloc, name.text.as_slice())?;
-    Ok(Some((
+    Ok((
         Arg {
             name: Some(name),
             value: value.into_inner(),
         },
         rest,
-    )))
+    ))
 }
 
-/// The name with which an argument begins, and what stands behind its `=`.
+/// The name with which an argument begins, and what comes after its `=`.
 fn parameter_name(tokens: &[Token]) -> Option<(&Token, &[Token])>
     ensures { MatchOption result (IsNoParameter tokens.now) (λ p. IsParameter tokens.now p.0.now p.1.now) }
 {
-    let (name, behind) = after_name(tokens)?;
-    let behind = after_mark(behind, b"=")?;
-    Some((name, behind))
+    let (name, tail) = after_name(tokens)?;
+    let tail = after_symbol(tail, b"=")?;
+    Some((name, tail))
 }

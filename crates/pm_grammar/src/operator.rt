@@ -5,17 +5,17 @@ ghost use Rattle.pm_grammar.specs.Operations.{IsNextOperator, IsNoOperator};
 ghost use Rattle.pm_grammar.specs.Operations as operations;
 
 use crate::level::Level;
-use crate::marks::{is_mark, is_word};
+use crate::tokens::{is_symbol, is_word};
 use pm_syn::{BinaryOp, Token, UnaryOp};
 
-/// An operator between operands, and the level at which it stands.
-#[derive(Clone, Copy, Debug, PartialEq, Eq)]
+/// An operator between two operands, and its level.
+#[derive(Clone, Copy)]
 pub(crate) struct Operator {
     pub op: BinaryOp,
     pub level: Level,
 }
 
-/// The levels whose operators stand between operands.
+/// The levels of the operators between two operands.
 const LEVELS: [Level; 10] = [
     Level::Disjunction,
     Level::Conjunction,
@@ -29,8 +29,8 @@ const LEVELS: [Level; 10] = [
     Level::Power,
 ];
 
-/// The operator between operands with which the tokens begin, where an operation of this level goes on by it behind an
-/// operand of the level `bound`; and what stands behind it.
+/// The operator with which the tokens begin and the tokens after it, if it continues an operation of this level after an
+/// operand of the level `bound`.
 pub(crate) fn operator_after(
     level: Level,
     bound: Level,
@@ -41,7 +41,7 @@ pub(crate) fn operator_after(
     let (first, tail) = tokens.split_first()?;
     let at = level_of(first)?;
     let op = operator_at(at, first)?;
-    if goes_on(level, bound, at) {
+    if continues_by(level, bound, at) {
         Some((Operator { op, level: at }, tail))
     } else {
         None
@@ -68,11 +68,12 @@ fn first_of(levels: &[Level], token: &Token) -> Option<Level>
     None
 }
 
-/// Whether an operation of this level goes on by an operator of the level `at`, behind an operand of the level `bound`.
-fn goes_on(level: Level, bound: Level, at: Level) -> bool
-    ensures { result ≡ operations.goes_on level bound at }
+/// Whether an operator of the level `at` continues an operation of this level after an operand of the level `bound`.
+fn continues_by(level: Level, bound: Level, at: Level) -> bool
+    ensures { result ≡ operations.continues_by level bound at }
 {
-    level.rank() <= at.rank() && (at.rank() < bound.rank() || (at == bound && at.groups_left()))
+    level.rank() <= at.rank()
+        && (at.rank() < bound.rank() || (at.rank() == bound.rank() && at.groups_left()))
 }
 
 /// The operator between two operands that the token is at a level, if it is one.
@@ -83,13 +84,13 @@ pub(crate) fn operator_at(level: Level, token: &Token) -> Option<BinaryOp>
         Level::Disjunction => is_word(b"or", token).then_some(BinaryOp::Or),
         Level::Conjunction => is_word(b"and", token).then_some(BinaryOp::And),
         Level::Comparison => comparison_of(token),
-        Level::BitOr => is_mark(b"|", token).then_some(BinaryOp::BitOr),
-        Level::BitXor => is_mark(b"^", token).then_some(BinaryOp::BitXor),
-        Level::BitAnd => is_mark(b"&", token).then_some(BinaryOp::BitAnd),
+        Level::BitOr => is_symbol(b"|", token).then_some(BinaryOp::BitOr),
+        Level::BitXor => is_symbol(b"^", token).then_some(BinaryOp::BitXor),
+        Level::BitAnd => is_symbol(b"&", token).then_some(BinaryOp::BitAnd),
         Level::Shift => shift_of(token),
         Level::Sum => sum_of(token),
         Level::Product => product_of(token),
-        Level::Power => is_mark(b"**", token).then_some(BinaryOp::Pow),
+        Level::Power => is_symbol(b"**", token).then_some(BinaryOp::Pow),
         Level::Conditional | Level::Negation | Level::Unary | Level::Postfix | Level::Atom => None,
     }
 }
@@ -98,17 +99,17 @@ pub(crate) fn operator_at(level: Level, token: &Token) -> Option<BinaryOp>
 fn comparison_of(token: &Token) -> Option<BinaryOp>
     ensures { result ≡ spec.operator_at Level.Comparison token.now }
 {
-    if is_mark(b"==", token) {
+    if is_symbol(b"==", token) {
         Some(BinaryOp::Eq)
-    } else if is_mark(b"!=", token) {
+    } else if is_symbol(b"!=", token) {
         Some(BinaryOp::Ne)
-    } else if is_mark(b"<", token) {
+    } else if is_symbol(b"<", token) {
         Some(BinaryOp::Lt)
-    } else if is_mark(b"<=", token) {
+    } else if is_symbol(b"<=", token) {
         Some(BinaryOp::Le)
-    } else if is_mark(b">", token) {
+    } else if is_symbol(b">", token) {
         Some(BinaryOp::Gt)
-    } else if is_mark(b">=", token) {
+    } else if is_symbol(b">=", token) {
         Some(BinaryOp::Ge)
     } else {
         None
@@ -119,9 +120,9 @@ fn comparison_of(token: &Token) -> Option<BinaryOp>
 fn shift_of(token: &Token) -> Option<BinaryOp>
     ensures { result ≡ spec.operator_at Level.Shift token.now }
 {
-    if is_mark(b"<<", token) {
+    if is_symbol(b"<<", token) {
         Some(BinaryOp::Shl)
-    } else if is_mark(b">>", token) {
+    } else if is_symbol(b">>", token) {
         Some(BinaryOp::Shr)
     } else {
         None
@@ -132,9 +133,9 @@ fn shift_of(token: &Token) -> Option<BinaryOp>
 fn sum_of(token: &Token) -> Option<BinaryOp>
     ensures { result ≡ spec.operator_at Level.Sum token.now }
 {
-    if is_mark(b"+", token) {
+    if is_symbol(b"+", token) {
         Some(BinaryOp::Add)
-    } else if is_mark(b"-", token) {
+    } else if is_symbol(b"-", token) {
         Some(BinaryOp::Sub)
     } else {
         None
@@ -145,11 +146,11 @@ fn sum_of(token: &Token) -> Option<BinaryOp>
 fn product_of(token: &Token) -> Option<BinaryOp>
     ensures { result ≡ spec.operator_at Level.Product token.now }
 {
-    if is_mark(b"*", token) {
+    if is_symbol(b"*", token) {
         Some(BinaryOp::Mul)
-    } else if is_mark(b"//", token) {
+    } else if is_symbol(b"//", token) {
         Some(BinaryOp::FloorDiv)
-    } else if is_mark(b"%", token) {
+    } else if is_symbol(b"%", token) {
         Some(BinaryOp::Mod)
     } else {
         None
@@ -160,11 +161,11 @@ fn product_of(token: &Token) -> Option<BinaryOp>
 pub(crate) fn sign_of(token: &Token) -> Option<UnaryOp>
     ensures { result ≡ spec.sign_of token.now }
 {
-    if is_mark(b"-", token) {
+    if is_symbol(b"-", token) {
         Some(UnaryOp::Minus)
-    } else if is_mark(b"+", token) {
+    } else if is_symbol(b"+", token) {
         Some(UnaryOp::Plus)
-    } else if is_mark(b"~", token) {
+    } else if is_symbol(b"~", token) {
         Some(UnaryOp::Invert)
     } else {
         None

@@ -1,16 +1,17 @@
-//! Reading simple statements, which may stand behind a header on its line.
+//! Reading simple statements, which may follow a header on its line.
 ghost use Rattle.std.specs.Prelude.{◌≡◌, ◌↔◌, ◌∷◌, IfOk, IfSome, IsTrue, MatchOption, Some, codes};
-ghost use Rattle.pm_syn.specs.declared.expression.Expr.{Expr as TheExpr};
 ghost use Rattle.pm_syn.specs.declared.statement.Stmt.{Stmt as TheStmt};
 ghost use Rattle.pm_syn.specs.declared.token.Token.{Token as TheToken};
-ghost use Rattle.pm_grammar.specs.ExpressionStatements.{EndsAssertion, SpellsBehind, SpellsWithExpression};
-ghost use Rattle.pm_grammar.specs.Fronts.{IsBehind, IsNotThere};
-ghost use Rattle.pm_grammar.specs.Marks as marks;
+ghost use Rattle.pm_grammar.specs.ExpressionStatements.{EndsAssertion, SpellsAfter, SpellsWithExpression};
+ghost use Rattle.pm_grammar.specs.Prefixes.{IsAfter, IsNotFirst};
+ghost use Rattle.pm_grammar.specs.Tokens as lexical;
 ghost use Rattle.pm_grammar.specs.Statements.{AreStrings, IsExpression, SpellsSimple};
 ghost use Rattle.pm_grammar.specs.Statements as spec;
+ghost use Rattle.pm_grammar.specs.Outcomes.{Gives, GivesAfter, GivesEach, GivesEachAfter, Reads};
+ghost use Rattle.pm_grammar.specs.Tokens.{IsColon, IsSymbol, IsWord};
 
-use crate::marks::{after_mark, after_word, is_mark, is_string, is_word};
-use crate::operation::expression;
+use crate::reading::expression;
+use crate::tokens::{after_symbol, after_word, is_string, is_symbol, is_word};
 use pm_io::{Boxed, NoMemory};
 use pm_syn::{AssignOp, Expr, Stmt, Token};
 use std::alloc::Global;
@@ -19,15 +20,15 @@ use std::alloc::Global;
 pub(crate) type Whole<T> = Result<Option<T>, NoMemory>;
 
 /// The expression that the tokens spell.
-pub(crate) fn whole_expression(alloc: Global, tokens: &[Token]) -> Whole<Expr>
-    ensures found { IfOk result (λ o. IfSome o (λ e. IsExpression tokens.now e)) }
-    ensures only { IfOk result (λ o. (e : TheExpr) → IsExpression tokens.now e → o ≡ Some e) }
+pub(crate) fn whole_expression(alloc: Global, tokens: &[Token]) -> Whole<Boxed<Expr>>
+    ensures found { Gives (IsExpression tokens.now) result }
+    ensures only { GivesEach (IsExpression tokens.now) result }
 {
     let Some((tree, rest)) = expression(alloc, tokens)? else {
         return Ok(None);
     };
     if rest.is_empty() {
-        Ok(Some(tree.into_inner()))
+        Ok(Some(tree))
     } else {
         Ok(None)
     }
@@ -35,23 +36,23 @@ pub(crate) fn whole_expression(alloc: Global, tokens: &[Token]) -> Whole<Expr>
 
 /// The simple statement that the tokens spell.
 pub(crate) fn simple(alloc: Global, tokens: &[Token]) -> Whole<Stmt>
-    ensures found { IfOk result (λ o. IfSome o (λ s. SpellsSimple tokens.now s)) }
-    ensures only { IfOk result (λ o. (s : TheStmt) → SpellsSimple tokens.now s → o ≡ Some s) }
+    ensures found { Gives (SpellsSimple tokens.now) result }
+    ensures only { GivesEach (SpellsSimple tokens.now) result }
 {
-    let Some((first, behind)) = tokens.split_first() else {
+    let Some((first, tail)) = tokens.split_first() else {
         return Ok(None);
     };
     if is_word(b"pass", first) {
-        if behind.is_empty() {
+        if tail.is_empty() {
             return Ok(Some(Stmt::Pass));
         }
         return Ok(None);
     }
     if is_word(b"return", first) {
-        return returned(alloc, behind);
+        return returned(alloc, tail);
     }
     if is_word(b"assert", first) {
-        return assertion(alloc, behind);
+        return assertion(alloc, tail);
     }
     if are_strings(tokens) {
         return Ok(Some(Stmt::Doc));
@@ -59,21 +60,21 @@ pub(crate) fn simple(alloc: Global, tokens: &[Token]) -> Whole<Stmt>
     expression_statement(alloc, tokens)
 }
 
-/// Reads what stands behind `return`.
+/// Reads what comes after `return`.
 fn returned(alloc: Global, tokens: &[Token]) -> Whole<Stmt>
-    ensures found { IfOk result (λ o. IfSome o (λ s. (word : TheToken) → IsTrue (marks.is_word (codes "return") word) → SpellsSimple (word ∷ tokens.now) s)) }
-    ensures only { IfOk result (λ o. (s : TheStmt) (word : TheToken) → IsTrue (marks.is_word (codes "return") word) → SpellsSimple (word ∷ tokens.now) s → o ≡ Some s) }
+    ensures found { GivesAfter (IsWord (codes "return")) (λ word. SpellsSimple (word ∷ tokens.now)) result }
+    ensures only { GivesEachAfter (IsWord (codes "return")) (λ word. SpellsSimple (word ∷ tokens.now)) result }
 {
     let Some(value) = whole_expression(alloc, tokens)? else {
         return Ok(None);
     };
-    Ok(Some(Stmt::Return(value)))
+    Ok(Some(Stmt::Return(value.into_inner())))
 }
 
-/// Reads what stands behind `assert`.
+/// Reads what comes after `assert`.
 fn assertion(alloc: Global, tokens: &[Token]) -> Whole<Stmt>
-    ensures found { IfOk result (λ o. IfSome o (λ s. (word : TheToken) → IsTrue (marks.is_word (codes "assert") word) → SpellsSimple (word ∷ tokens.now) s)) }
-    ensures only { IfOk result (λ o. (s : TheStmt) (word : TheToken) → IsTrue (marks.is_word (codes "assert") word) → SpellsSimple (word ∷ tokens.now) s → o ≡ Some s) }
+    ensures found { GivesAfter (IsWord (codes "assert")) (λ word. SpellsSimple (word ∷ tokens.now)) result }
+    ensures only { GivesEachAfter (IsWord (codes "assert")) (λ word. SpellsSimple (word ∷ tokens.now)) result }
 {
     let Some((tree, rest)) = expression(alloc, tokens)? else {
         return Ok(None);
@@ -85,14 +86,14 @@ fn assertion(alloc: Global, tokens: &[Token]) -> Whole<Stmt>
     }
 }
 
-/// Whether the tokens are what may stand behind the expression of an `assert`: nothing, or a comma and strings.
+/// Whether the tokens may follow the expression of an `assert`: none, or a comma and strings.
 fn ends_assertion(tokens: &[Token]) -> bool
     ensures { IsTrue result ↔ EndsAssertion tokens.now }
 {
     let Some((comma, strings)) = tokens.split_first() else {
         return true;
     };
-    is_mark(b",", comma) && are_strings(strings)
+    is_symbol(b",", comma) && are_strings(strings)
 }
 
 /// Whether the tokens are one or more strings.
@@ -104,36 +105,35 @@ fn are_strings(tokens: &[Token]) -> bool
 
 /// Reads a statement that begins with an expression.
 fn expression_statement(alloc: Global, tokens: &[Token]) -> Whole<Stmt>
-    ensures found { IfOk result (λ o. IfSome o (λ s. SpellsWithExpression tokens.now s)) }
-    ensures only { IfOk result (λ o. (s : TheStmt) → SpellsWithExpression tokens.now s → o ≡ Some s) }
+    ensures found { Gives (SpellsWithExpression tokens.now) result }
+    ensures only { GivesEach (SpellsWithExpression tokens.now) result }
 {
     let Some((target, rest)) = expression(alloc, tokens)? else {
         return Ok(None);
     };
-    let target = target.into_inner();
-    let Some((sign, behind)) = rest.split_first() else {
-        return Ok(Some(Stmt::Do(target)));
+    let Some((sign, tail)) = rest.split_first() else {
+        return Ok(Some(Stmt::Do(target.into_inner())));
     };
-    if is_mark(b":", sign) {
-        return annotation(alloc, target, behind);
+    if is_symbol(b":", sign) {
+        return annotation(alloc, target, tail);
     }
     match assignment_of(sign) {
-        Some(op) => assignment(alloc, op, target, behind),
+        Some(op) => assignment(alloc, op, target, tail),
         None => Ok(None),
     }
 }
 
-/// The assignment that a token stands for, if it stands for one.
+/// The assignment that the token is, if it is one.
 fn assignment_of(token: &Token) -> Option<AssignOp>
     ensures { result ≡ spec.assignment_of token.now }
 {
-    if is_mark(b"=", token) {
+    if is_symbol(b"=", token) {
         Some(AssignOp::Plain)
-    } else if is_mark(b"@=", token) {
+    } else if is_symbol(b"@=", token) {
         Some(AssignOp::Now)
-    } else if is_mark(b"<<=", token) {
+    } else if is_symbol(b"<<=", token) {
         Some(AssignOp::Next)
-    } else if is_mark(b"//=", token) {
+    } else if is_symbol(b"//=", token) {
         Some(AssignOp::Join)
     } else {
         None
@@ -141,22 +141,22 @@ fn assignment_of(token: &Token) -> Option<AssignOp>
 }
 
 /// Reads the value that is assigned.
-fn assignment(alloc: Global, op: AssignOp, target: Expr, tokens: &[Token]) -> Whole<Stmt>
-    ensures found { IfOk result (λ o. IfSome o (λ s. (sign : TheToken) → spec.assignment_of sign ≡ Some op → SpellsBehind target (sign ∷ tokens.now) s)) }
-    ensures only { IfOk result (λ o. (s : TheStmt) (sign : TheToken) → spec.assignment_of sign ≡ Some op → SpellsBehind target (sign ∷ tokens.now) s → o ≡ Some s) }
+fn assignment(alloc: Global, op: AssignOp, target: Boxed<Expr>, tokens: &[Token]) -> Whole<Stmt>
+    ensures found { GivesAfter (λ sign. spec.assignment_of sign ≡ Some op) (λ sign. SpellsAfter target (sign ∷ tokens.now)) result }
+    ensures only { GivesEachAfter (λ sign. spec.assignment_of sign ≡ Some op) (λ sign. SpellsAfter target (sign ∷ tokens.now)) result }
 {
-    if let Some(behind) = after_lambda(op, tokens) {
-        return joined_block(alloc, target, behind);
+    if let Some(tail) = after_lambda(op, tokens) {
+        return joined_block(alloc, target, tail);
     }
     let Some(value) = whole_expression(alloc, tokens)? else {
         return Ok(None);
     };
-    Ok(Some(Stmt::Assign(op, target, value)))
+    Ok(Some(Stmt::Assign(op, target.into_inner(), value.into_inner())))
 }
 
-/// What stands behind `lambda`, where the tokens are assigned by `//=` and begin with it.
+/// What comes after `lambda`, if the tokens are assigned by `//=` and begin with it.
 fn after_lambda(op: AssignOp, tokens: &[Token]) -> Option<&[Token]>
-    ensures { MatchOption result (op ≡ AssignOp.Join → IsNotThere (marks.is_word (codes "lambda")) tokens.now) (λ tail. (op ≡ AssignOp.Join) × IsBehind (marks.is_word (codes "lambda")) tokens.now tail.now) }
+    ensures { MatchOption result (op ≡ AssignOp.Join → IsNotFirst (lexical.is_word (codes "lambda")) tokens.now) (λ tail. (op ≡ AssignOp.Join) × IsAfter (lexical.is_word (codes "lambda")) tokens.now tail.now) }
 {
     if op == AssignOp::Join {
         after_word(tokens, b"lambda")
@@ -165,37 +165,37 @@ fn after_lambda(op: AssignOp, tokens: &[Token]) -> Option<&[Token]>
     }
 }
 
-/// Reads the colon and the value behind `//= lambda`.
-fn joined_block(alloc: Global, target: Expr, tokens: &[Token]) -> Whole<Stmt>
-    ensures found { IfOk result (λ o. IfSome o (λ s. (sign word : TheToken) → IsTrue (marks.is_mark (codes "//=") sign) → IsTrue (marks.is_word (codes "lambda") word) → SpellsBehind target (sign ∷ word ∷ tokens.now) s)) }
-    ensures only { IfOk result (λ o. (s : TheStmt) (sign word : TheToken) → IsTrue (marks.is_mark (codes "//=") sign) → IsTrue (marks.is_word (codes "lambda") word) → SpellsBehind target (sign ∷ word ∷ tokens.now) s → o ≡ Some s) }
+/// Reads the colon and the value after `//= lambda`.
+fn joined_block(alloc: Global, target: Boxed<Expr>, tokens: &[Token]) -> Whole<Stmt>
+    ensures found { IfOk result (λ o. IfSome o (λ s. (sign word : TheToken) → IsSymbol (codes "//=") sign → IsWord (codes "lambda") word → SpellsAfter target (sign ∷ word ∷ tokens.now) s)) }
+    ensures only { IfOk result (λ o. (s : TheStmt) (sign word : TheToken) → IsSymbol (codes "//=") sign → IsWord (codes "lambda") word → SpellsAfter target (sign ∷ word ∷ tokens.now) s → o ≡ Some s) }
 {
-    let Some(behind) = after_mark(tokens, b":") else {
+    let Some(tail) = after_symbol(tokens, b":") else {
         return Ok(None);
     };
-    let Some(value) = whole_expression(alloc, behind)? else {
+    let Some(value) = whole_expression(alloc, tail)? else {
         return Ok(None);
     };
-    Ok(Some(Stmt::JoinLambda(target, value)))
+    Ok(Some(Stmt::JoinLambda(target.into_inner(), value.into_inner())))
 }
 
-/// Reads the annotation behind a colon, and the value behind it.
-fn annotation(alloc: Global, target: Expr, tokens: &[Token]) -> Whole<Stmt>
-    ensures found { IfOk result (λ o. IfSome o (λ s. (colon : TheToken) → IsTrue (marks.is_mark (codes ":") colon) → SpellsBehind target (colon ∷ tokens.now) s)) }
-    ensures only { IfOk result (λ o. (s : TheStmt) (colon : TheToken) → IsTrue (marks.is_mark (codes ":") colon) → SpellsBehind target (colon ∷ tokens.now) s → o ≡ Some s) }
+/// Reads the annotation after a colon, and the value after it, if there is one.
+fn annotation(alloc: Global, target: Boxed<Expr>, tokens: &[Token]) -> Whole<Stmt>
+    ensures found { GivesAfter IsColon (λ colon. SpellsAfter target (colon ∷ tokens.now)) result }
+    ensures only { GivesEachAfter IsColon (λ colon. SpellsAfter target (colon ∷ tokens.now)) result }
 {
     let Some((note, rest)) = expression(alloc, tokens)? else {
         return Ok(None);
     };
-    let note = note.into_inner();
     if rest.is_empty() {
-        return Ok(Some(Stmt::Note(target, note, None)));
+        return Ok(Some(Stmt::Note(target.into_inner(), note.into_inner(), None)));
     }
-    let Some(behind) = after_mark(rest, b"=") else {
+    let Some(tail) = after_symbol(rest, b"=") else {
         return Ok(None);
     };
-    let Some(value) = whole_expression(alloc, behind)? else {
+    let Some(value) = whole_expression(alloc, tail)? else {
         return Ok(None);
     };
-    Ok(Some(Stmt::Note(target, note, Some(value))))
+    let value = Some(value.into_inner());
+    Ok(Some(Stmt::Note(target.into_inner(), note.into_inner(), value)))
 }

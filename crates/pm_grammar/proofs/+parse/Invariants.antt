@@ -1,7 +1,7 @@
 use Rattle.std.proofs.Common.{◌+◌, ◌*◌, ◌<◌, ◌≤◌, Some, length}
 use Rattle.pm_grammar.specs.Expressions.{Spells, SpellsSequence}
 use Rattle.pm_grammar.specs.Levels.{rank}
-use Rattle.pm_grammar.specs.Operations.{GoesOnFrom}
+use Rattle.pm_grammar.specs.Operations.{ContinuesFrom}
 use Rattle.pm_grammar.specs.Reading.{Begins}
 use Rattle.pm_grammar.specs.declared.level.Level.TheVariants as level
 use Rattle.pm_grammar.proofs.CallArguments.{GoesOnArguments, SpellsLeading}
@@ -46,11 +46,11 @@ decreases-operand::group l = 16 * length l.tokens.now + 7
 abbrev pub decreases-operand::list : goal.decreases-operand::list
 decreases-operand::list l = 16 * length l.tokens.now + 7
 
-abbrev pub decreases-operand::place : goal.decreases-operand::place
-decreases-operand::place l = 16 * length l.tokens.now + 7
+abbrev pub decreases-operand::subscript : goal.decreases-operand::subscript
+decreases-operand::subscript l = 16 * length l.tokens.now + 7
 
-abbrev pub decreases-operand::items_behind : goal.decreases-operand::items_behind
-decreases-operand::items_behind l = 16 * length l.tokens.now + 7
+abbrev pub decreases-operand::more_items : goal.decreases-operand::more_items
+decreases-operand::more_items l = 16 * length l.tokens.now + 7
 
 abbrev pub decreases-operand::range : goal.decreases-operand::range
 decreases-operand::range l = 16 * length l.tokens.now + 8
@@ -71,15 +71,15 @@ invariant-operand::suffixed-suffixes l = record {
 abbrev pub decreases-operand::suffixed-suffixes : goal.decreases-operand::suffixed-suffixes
 decreases-operand::suffixed-suffixes l = length l.rest
 
-abbrev pub invariant-operand::items_behind-items : goal.invariant-operand::items_behind-items
-invariant-operand::items_behind-items l = record {
+abbrev pub invariant-operand::more_items-items : goal.invariant-operand::more_items-items
+invariant-operand::more_items-items l = record {
   found : IsSequenceBehind l.fn.first l.tokens l.items l.rest;
   only : GoesOnItems l.fn.first l.tokens l.items l.rest;
   no_longer : length l.rest ≤ length l.tokens;
 }
 
-abbrev pub decreases-operand::items_behind-items : goal.decreases-operand::items_behind-items
-decreases-operand::items_behind-items l = length l.rest
+abbrev pub decreases-operand::more_items-items : goal.decreases-operand::more_items-items
+decreases-operand::more_items-items l = length l.rest
 
 abbrev pub invariant-operand::bounds-bounds : goal.invariant-operand::bounds-bounds
 invariant-operand::bounds-bounds l = record {
@@ -105,7 +105,7 @@ decreases-operand::arguments-arguments l = length l.rest
 abbrev pub invariant-operation::operation-operators : goal.invariant-operation::operation-operators
 invariant-operation::operation-operators l = record {
   found : Begins (Spells l.bound) l.tokens l.tree l.rest;
-  only : GoesOnFrom l.level l.tokens (Some ((l.tree, l.bound), l.rest));
+  only : ContinuesFrom l.level l.tokens (Some ((l.tree, l.bound), l.rest));
   loosest : rank l.level ≤ rank l.bound;
   tightest : rank l.bound ≤ 11;
   shorter : length l.rest < length l.tokens;

@@ -15,15 +15,15 @@ names-init c =
 
 pub returns-in_default-after_name : goal.returns-in_default-after_name
 returns-in_default-after_name c =
-    (λ is. absurd (false≢true is), λ spelled. absurd (no_next_name c.names.rest.now c.in-Some-after_mark.behind.now c.in-Some-after_mark.ensures c.in_default-after_name.ensures (c.names.invariant.only spelled)))
+    (λ is. absurd (false≢true is), λ spelled. absurd (no_next_name c.names.rest.now c.in-Some-after_symbol.tail.now c.in-Some-after_symbol.ensures c.in_default-after_name.ensures (c.names.invariant.only spelled)))
 
 pub names-preserved : goal.names-preserved
 names-preserved c =
     record {
-      found = next_name_found c.args.tokens.now c.names.rest.now c.in-Some-after_mark.behind.now c.in-Some-after_name.after.now c.in-Some-after_name.field-0-0.now c.names.invariant.found c.in-Some-after_mark.ensures c.in-Some-after_name.ensures;
-      only = λ spelled. next_name_only c.names.rest.now c.in-Some-after_mark.behind.now c.in-Some-after_name.after.now c.in-Some-after_name.field-0-0.now c.in-Some-after_mark.ensures c.in-Some-after_name.ensures.0 (c.names.invariant.only spelled);
+      found = next_name_found c.args.tokens.now c.names.rest.now c.in-Some-after_symbol.tail.now c.in-Some-after_name.after.now c.in-Some-after_name.field-0-0.now c.names.invariant.found c.in-Some-after_symbol.ensures c.in-Some-after_name.ensures;
+      only = λ spelled. next_name_only c.names.rest.now c.in-Some-after_symbol.tail.now c.in-Some-after_name.after.now c.in-Some-after_name.field-0-0.now c.in-Some-after_symbol.ensures c.in-Some-after_name.ensures.0 (c.names.invariant.only spelled);
     }
 
 pub returns : goal.returns
 returns c =
-    names_are c.args.tokens.now c.names.rest.now c.is_empty.result c.names.invariant.found c.names.invariant.only c.in_default-after_mark.ensures c.is_empty.ensures
+    names_are c.args.tokens.now c.names.rest.now c.is_empty.result c.names.invariant.found c.names.invariant.only c.in_default-after_symbol.ensures c.is_empty.ensures

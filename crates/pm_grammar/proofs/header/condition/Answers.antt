@@ -20,4 +20,4 @@ pub returns-clause-only : goal.returns-clause-only
 returns-clause-only c =
     λ condition body is.
     let only = only_before_end IsExpression c.args.tokens.now _ _ (read_of c.in_ok-condition.field-0) c.in_ok-body.field-0 (expression_before _ _ c.in_ok-condition.ensures.only) (ap (read_of {A = Expr}) c.in-Some.is) c.in_ok-body.ensures.only condition is.0 body is.1 is.2 in
-    cc (only.0, only.1, c.in-Some-2.is, c.into_inner.ensures)
+    cc (only.0, only.1, c.in-Some-2.is)

@@ -13,13 +13,13 @@ returns-then-is_empty-clause-found c =
 
 pub returns-in_default-2-clause-only : goal.returns-in_default-2-clause-only
 returns-in_default-2-clause-only c =
-    no_guard_read c.args.tokens.now c.in-Some.rest.now c.in-Some-guard_behind.behind.now c.in-Some.name.now c.in_ok-condition.field-0 c.in-Some.ensures.0 (empty_false _ _ c.is_empty.ensures c.if-is_empty.false) c.in-Some-guard_behind.ensures c.in_ok-condition.ensures.only c.in_default-2.is
+    no_guard_read c.args.tokens.now c.in-Some.rest.now c.in-Some-after_guard_opening.tail.now c.in-Some.name.now c.in_ok-condition.field-0 c.in-Some.ensures.0 (empty_false _ _ c.is_empty.ensures c.if-is_empty.false) c.in-Some-after_guard_opening.ensures c.in_ok-condition.ensures.only c.in_default-2.is
 
 pub returns-clause-found : goal.returns-clause-found
 returns-clause-found c =
-    let guard : IsGuard c.in-Some-guard_behind.behind.now c.in-Some-2.condition = rw c.in-Some-2.is at c.in_ok-condition.ensures.found in
-    guard_found c.args.tokens.now c.in-Some.rest.now c.in-Some-guard_behind.behind.now c.in-Some.name.now _ c.in-Some.ensures.0 (sym c.is_word.ensures ∙ c.if-not-is_word.false) c.in-Some-guard_behind.ensures guard
+    let guard : IsGuard c.in-Some-after_guard_opening.tail.now c.in-Some-2.condition = rw c.in-Some-2.is at c.in_ok-condition.ensures.found in
+    rw c.into_inner.ensures (guard_found c.args.tokens.now c.in-Some.rest.now c.in-Some-after_guard_opening.tail.now c.in-Some.name.now _ c.in-Some.ensures.0 (sym c.is_word.ensures ∙ c.if-not-is_word.false) c.in-Some-after_guard_opening.ensures guard)
 
 pub returns-clause-only : goal.returns-clause-only
 returns-clause-only c =
-    guard_read_once c.args.tokens.now c.in-Some.rest.now c.in-Some-guard_behind.behind.now c.in-Some.name.now _ c.in_ok-condition.field-0 c.in-Some.ensures.0 (empty_false _ _ c.is_empty.ensures c.if-is_empty.false) c.in-Some-guard_behind.ensures c.in_ok-condition.ensures.only c.in-Some-2.is
+    rw c.into_inner.ensures (guard_read_once c.args.tokens.now c.in-Some.rest.now c.in-Some-after_guard_opening.tail.now c.in-Some.name.now _ c.in_ok-condition.field-0 c.in-Some.ensures.0 (empty_false _ _ c.is_empty.ensures c.if-is_empty.false) c.in-Some-after_guard_opening.ensures c.in_ok-condition.ensures.only c.in-Some-2.is)

@@ -19,25 +19,25 @@ parameters-init c =
       only = rw c.new-parameters.ensures (goes_first c.args.tokens.now c.in-Some.rest.now c.in-Some.ensures);
     }
 
-pub returns-then-begins_with_mark-clause-found : goal.returns-then-begins_with_mark-clause-found
-returns-then-begins_with_mark-clause-found c =
-    trailing_found c.args.tokens.now c.parameters.rest.now c.in-Some-after_mark.behind.now c.parameters.parameters c.parameters.invariant.found c.in-Some-after_mark.ensures
+pub returns-then-begins_with_symbol-clause-found : goal.returns-then-begins_with_symbol-clause-found
+returns-then-begins_with_symbol-clause-found c =
+    trailing_found c.args.tokens.now c.parameters.rest.now c.in-Some-after_symbol.tail.now c.parameters.parameters c.parameters.invariant.found c.in-Some-after_symbol.ensures
 
-pub returns-then-begins_with_mark-clause-only : goal.returns-then-begins_with_mark-clause-only
-returns-then-begins_with_mark-clause-only c =
-    trailing_only c.args.tokens.now c.parameters.rest.now c.in-Some-after_mark.behind.now c.parameters.parameters c.parameters.invariant.only c.in-Some-after_mark.ensures (sym c.begins_with_mark.ensures ∙ c.if-begins_with_mark.true)
+pub returns-then-begins_with_symbol-clause-only : goal.returns-then-begins_with_symbol-clause-only
+returns-then-begins_with_symbol-clause-only c =
+    trailing_only c.args.tokens.now c.parameters.rest.now c.in-Some-after_symbol.tail.now c.parameters.parameters c.parameters.invariant.only c.in-Some-after_symbol.ensures (sym c.begins_with_symbol.ensures ∙ c.if-begins_with_symbol.true)
 
 pub returns-in_default-2-clause-only : goal.returns-in_default-2-clause-only
 returns-in_default-2-clause-only c =
-    no_next c.args.tokens.now c.parameters.rest.now c.in-Some-after_mark.behind.now c.parameters.parameters (read_of c.in_ok-parameter.field-0) c.parameters.invariant.only c.in-Some-after_mark.ensures (sym c.begins_with_mark.ensures ∙ c.if-begins_with_mark.false) c.in_ok-parameter.ensures.only (ap (read_of {A = Par}) c.in_default-2.is)
+    no_next c.args.tokens.now c.parameters.rest.now c.in-Some-after_symbol.tail.now c.parameters.parameters (read_of c.in_ok-parameter.field-0) c.parameters.invariant.only c.in-Some-after_symbol.ensures (sym c.begins_with_symbol.ensures ∙ c.if-begins_with_symbol.false) c.in_ok-parameter.ensures.only (ap (read_of {A = Par}) c.in_default-2.is)
 
 pub parameters-preserved : goal.parameters-preserved
 parameters-preserved c =
     let spelled = rw c.in-Some-2.is at c.in_ok-parameter.ensures.found in
     let pushed = c.in_ok-push.ensures.ok in
     record {
-      found = rw pushed (next_found c.args.tokens.now c.parameters.rest.now c.in-Some-after_mark.behind.now c.in-Some-2.after.now c.parameters.parameters c.in-Some-2.parameter c.parameters.invariant.found c.in-Some-after_mark.ensures spelled);
-      only = rw pushed (goes_next c.args.tokens.now c.parameters.rest.now c.in-Some-after_mark.behind.now c.in-Some-2.after.now c.parameters.parameters c.in-Some-2.parameter (read_of c.in_ok-parameter.field-0) c.parameters.invariant.only c.in-Some-after_mark.ensures (sym c.begins_with_mark.ensures ∙ c.if-begins_with_mark.false) c.in_ok-parameter.ensures.only (ap (read_of {A = Par}) c.in-Some-2.is));
+      found = rw pushed (next_found c.args.tokens.now c.parameters.rest.now c.in-Some-after_symbol.tail.now c.in-Some-2.after.now c.parameters.parameters c.in-Some-2.parameter c.parameters.invariant.found c.in-Some-after_symbol.ensures spelled);
+      only = rw pushed (goes_next c.args.tokens.now c.parameters.rest.now c.in-Some-after_symbol.tail.now c.in-Some-2.after.now c.parameters.parameters c.in-Some-2.parameter (read_of c.in_ok-parameter.field-0) c.parameters.invariant.only c.in-Some-after_symbol.ensures (sym c.begins_with_symbol.ensures ∙ c.if-begins_with_symbol.false) c.in_ok-parameter.ensures.only (ap (read_of {A = Par}) c.in-Some-2.is));
     }
 
 pub returns-clause-found : goal.returns-clause-found
@@ -46,4 +46,4 @@ returns-clause-found c =
 
 pub returns-clause-only : goal.returns-clause-only
 returns-clause-only c =
-    signature_only c.args.tokens.now c.parameters.rest.now c.parameters.parameters c.parameters.invariant.only c.in_default-after_mark.ensures
+    signature_only c.args.tokens.now c.parameters.rest.now c.parameters.parameters c.parameters.invariant.only c.in_default-after_symbol.ensures

@@ -6,12 +6,12 @@ use Rattle.pm_grammar.proofs.simple.returned.Goals as goal
 pub returns-clause-found : goal.returns-clause-found
 returns-clause-found c word is =
     let spelled = value_found c.args.tokens.now _ _ c.in-Some.is c.in_ok-value.ensures.found in
-    SpellsSimple.returned word c.args.tokens.now c.in-Some.value is spelled
+    rw c.into_inner.ensures (SpellsSimple.returned word c.args.tokens.now c.in-Some.value is spelled)
 
 pub returns-clause-only : goal.returns-clause-only
 returns-clause-only c s word is spelled =
     let value = simple-return word c.args.tokens.now s is spelled in
-    same_made leaf.Return _ c.in-Some.value value.0 s c.in-Some.is (c.in_ok-value.ensures.only value.0 value.1) value.2
+    rw c.into_inner.ensures (same_made leaf.Return _ c.in-Some.value value.0 s c.in-Some.is (c.in_ok-value.ensures.only value.0 value.1) value.2)
 
 pub returns-in_default-clause-only : goal.returns-in_default-clause-only
 returns-in_default-clause-only c s word is spelled =

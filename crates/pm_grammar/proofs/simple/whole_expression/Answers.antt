@@ -1,4 +1,4 @@
-use Rattle.std.proofs.Common.{◌∙◌, Some, ap, sym}
+use Rattle.std.proofs.Common.{Some, ap, sym}
 use Rattle.pm_grammar.proofs.SimpleStatements.{only_none, only_some, some_tokens, whole_none, whole_some}
 use Rattle.pm_grammar.proofs.simple.whole_expression.Goals as goal
 
@@ -11,7 +11,7 @@ pub returns-then-is_empty-clause-only : goal.returns-then-is_empty-clause-only
 returns-then-is_empty-clause-only c e spelled =
     let all = c.args.tokens.now in
     let read = whole_some all c.in-Some.rest.now c.in-Some.tree (only_some all _ c.in-Some.tree c.in-Some.rest c.in-Some.is c.in_ok-tree.ensures.only) e spelled in
-    ap Some (c.into_inner.ensures ∙ sym read.0)
+    ap Some (sym read.0)
 
 pub returns-else-is_empty-clause-only : goal.returns-else-is_empty-clause-only
 returns-else-is_empty-clause-only c e spelled =
