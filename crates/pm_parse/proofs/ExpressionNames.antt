@@ -41,11 +41,11 @@ names-Attr a name = ap names_of_expression (sym (expr.rolls-Attr a name)) ∙ fo
 pub names-Call : (callee : Expr) (arguments : List Arg) → names_of_expression (expr.Call callee arguments) ≡ names_of_expression callee ++ all_names (map names_of_argument arguments)
 names-Call callee arguments = ap names_of_expression (sym (expr.rolls-Call callee arguments)) ∙ fold-roll-Expr Names Names expression_over argument_over (Expr-F.Call callee arguments)
 
--- an element at a place
+-- an element at an index
 pub names-Index : (a index : Expr) → names_of_expression (expr.Index a index) ≡ names_of_expression a ++ names_of_expression index
 names-Index a index = ap names_of_expression (sym (expr.rolls-Index a index)) ∙ fold-roll-Expr Names Names expression_over argument_over (Expr-F.Index a index)
 
--- the elements between two places
+-- the elements between two indexes
 pub names-Slice : (a low high : Expr) → names_of_expression (expr.Slice a low high) ≡ names_of_expression a ++ (names_of_expression low ++ names_of_expression high)
 names-Slice a low high = ap names_of_expression (sym (expr.rolls-Slice a low high)) ∙ fold-roll-Expr Names Names expression_over argument_over (Expr-F.Slice a low high)
 

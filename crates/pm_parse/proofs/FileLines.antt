@@ -1,4 +1,4 @@
--- That the nodes of a file are its lines in their order, but for those that are read over.
+-- That the nodes of a file are its lines in their order, except the lines that are skipped.
 use Rattle.std.proofs.Common.{◌≡◌, ◌∙◌, ◌<◌, ℕ, List, [], ◌∷◌, ◌++◌, All, AllPairs, arith, map, refl, sym, ap, ap₂, subst, suc}
 use Rattle.std.specs.Prelude.{Ok}
 use Rattle.std.proofs.lemmas.Bool.{cond_both}
@@ -14,7 +14,7 @@ use Rattle.pm_syn.specs.declared.token.Line.{Line}
 use Rattle.pm_parse.specs.Answers.{IsFileAnswer}
 use Rattle.pm_parse.specs.Entries.{AreEntries}
 use Rattle.pm_parse.specs.FileLines.{FilesKeepTheOrderOfLines, numbers_of, numbers_of_node, numbers_over}
-use Rattle.pm_parse.specs.ReadOver.{is_read_over, kept, kept_behind}
+use Rattle.pm_parse.specs.Skipped.{is_skipped, kept, kept_after}
 use Rattle.pm_parse.specs.Trees.{AreTrees}
 use Rattle.pm_parse.specs.declared.entry.Entry.{Entry}
 use Rattle.pm_parse.proofs.KeptLines.{all_kept}
@@ -38,10 +38,10 @@ numbers_of-node number statement body =
 -- the numbers of trees are those of their lines
 numbers_of_trees : (entries : List Entry) (nodes : List Node) → AreTrees entries nodes → numbers_of nodes ≡ map number_of_entry entries
 numbers_of_trees _ _ AreTrees.no_lines = refl
-numbers_of_trees _ _ (AreTrees.line entry statement under behind body nodes says deeper returns inner outer) =
+numbers_of_trees _ _ (AreTrees.line entry statement under after body nodes says deeper returns inner outer) =
     let first = numbers_of-node entry.number statement body ∙ ap (λ (numbers : List ℕ). entry.number ∷ numbers) (numbers_of_trees under body inner) in
-    ap₂ (λ (numbers others : List ℕ). numbers ++ others) first (numbers_of_trees behind nodes outer)
-    ∙ ap (λ (numbers : List ℕ). entry.number ∷ numbers) (sym (map-append number_of_entry under behind))
+    ap₂ (λ (numbers others : List ℕ). numbers ++ others) first (numbers_of_trees after nodes outer)
+    ∙ ap (λ (numbers : List ℕ). entry.number ∷ numbers) (sym (map-append number_of_entry under after))
 
 -- entries have the numbers of their lines
 numbers_of_entries : (lines : List Line) (entries : List Entry) → AreEntries lines entries → map number_of_entry entries ≡ map number_of lines
@@ -60,27 +60,27 @@ Ascend numbers = AllPairs (λ (number later : ℕ). number < later) numbers
 abbrev LinesAscend : List Line → Type 0
 LinesAscend lines = AllPairs (λ (line later : Line). line.number < later.number) lines
 
--- the line is behind this number
+-- the line is after this number
 abbrev IsBehind : ℕ → Line → Type 0
 IsBehind number line = number < line.number
 
--- behind the first line are the others
-lines_behind : (line : Line) (lines : List Line) → LinesAscend (line ∷ lines) → All (IsBehind line.number) lines
-lines_behind line lines ascend k other within = ascend 0 (suc k) other (omega arith) (omega (arith, within))
+-- after the first line are the others
+lines_after : (line : Line) (lines : List Line) → LinesAscend (line ∷ lines) → All (IsBehind line.number) lines
+lines_after line lines ascend k other within = ascend 0 (suc k) other (omega arith) (omega (arith, within))
 
 -- the other lines ascend
 lines_ascend : (line : Line) (lines : List Line) → LinesAscend (line ∷ lines) → LinesAscend lines
 lines_ascend line lines ascend i j other less within = ascend (suc i) (suc j) other (omega (arith, less)) (omega (arith, within))
 
 -- of lines that ascend the numbers of those that are kept ascend
-kept_ascend : (before lines : List Line) → LinesAscend lines → Ascend (map number_of (kept_behind before lines))
+kept_ascend : (before lines : List Line) → LinesAscend lines → Ascend (map number_of (kept_after before lines))
 kept_ascend before [] ascend = λ i j d less within. absurd (omega (arith, within))
 kept_ascend before (line ∷ lines) ascend =
     let others = kept_ascend (line ∷ before) lines (lines_ascend line lines ascend) in
-    let behind = all_kept (IsBehind line.number) (line ∷ before) lines (lines_behind line lines ascend) in
-    cond_both (is_read_over line before) (kept_behind (line ∷ before) lines) (line ∷ kept_behind (line ∷ before) lines) (λ (left : List Line). Ascend (map number_of left)) (λ _. others) (
-    λ _. AllPairs-cons (λ (number later : ℕ). number < later) line.number (map number_of (kept_behind (line ∷ before) lines)) (
-    All-map (λ (later : ℕ). line.number < later) number_of (kept_behind (line ∷ before) lines) behind) others)
+    let after = all_kept (IsBehind line.number) (line ∷ before) lines (lines_after line lines ascend) in
+    cond_both (is_skipped line before) (kept_after (line ∷ before) lines) (line ∷ kept_after (line ∷ before) lines) (λ (left : List Line). Ascend (map number_of left)) (λ _. others) (
+    λ _. AllPairs-cons (λ (number later : ℕ). number < later) line.number (map number_of (kept_after (line ∷ before) lines)) (
+    All-map (λ (later : ℕ). line.number < later) number_of (kept_after (line ∷ before) lines) after) others)
 
 -- ---- the law
 

@@ -7,12 +7,12 @@ use Rattle.pm_syn.specs.declared.statement.Stmt.{Stmt}
 use Rattle.pm_syn.specs.declared.token.Line.{Line}
 use Rattle.pm_parse.specs.Entries.{AreEntries, IsEntry, Says}
 use Rattle.pm_parse.specs.FileNames.{FilesHaveProperNames, HasSpelledNames, Names, names_of, names_of_node, names_of_statement, node_over}
-use Rattle.pm_parse.specs.ReadOver.{kept}
+use Rattle.pm_parse.specs.Skipped.{kept}
 use Rattle.pm_parse.specs.Trees.{AreTrees}
 use Rattle.pm_parse.specs.Trees as trees
 use Rattle.pm_parse.specs.declared.entry.Entry.{Entry}
 use Rattle.pm_parse.proofs.KeptLines.{all_kept}
-use Rattle.pm_parse.proofs.ProperNames.{AreProper, all_behind, all_front, both_proper, none_proper, same_proper}
+use Rattle.pm_parse.proofs.ProperNames.{AreProper, all_rest, all_prefix, both_proper, none_proper, same_proper}
 use Rattle.pm_parse.proofs.SpelledStatements.{IsProper, spelled_line}
 
 -- ---- what the lines say
@@ -42,12 +42,12 @@ names-node line statement body = fold-roll-Node Names node_over (record { line =
 -- the names in the trees of some lines
 trees_proper : (entries : List Entry) (nodes : List Node) → AreTrees entries nodes → All SaysProper entries → AreProper (names_of nodes)
 trees_proper _ _ trees.no_lines all = none_proper
-trees_proper _ _ (trees.line entry statement under behind body nodes says deeper returns inner others) all =
-    let rest = All-tail SaysProper entry (under ++ behind) all in
-    let first = All-head SaysProper entry (under ++ behind) all statement says in
+trees_proper _ _ (trees.line entry statement under after body nodes says deeper returns inner others) all =
+    let rest = All-tail SaysProper entry (under ++ after) all in
+    let first = All-head SaysProper entry (under ++ after) all statement says in
     both_proper _ (names_of nodes)
-    (same_proper _ _ (names-node entry.number statement body) (both_proper (names_of_statement statement) (names_of body) first (trees_proper under body inner (all_front SaysProper under behind rest))))
-    (trees_proper behind nodes others (all_behind SaysProper under behind rest))
+    (same_proper _ _ (names-node entry.number statement body) (both_proper (names_of_statement statement) (names_of body) first (trees_proper under body inner (all_prefix SaysProper under after rest))))
+    (trees_proper after nodes others (all_rest SaysProper under after rest))
 
 -- the names in a file
 pub files_have_proper_names : FilesHaveProperNames

@@ -1,4 +1,4 @@
--- Lines without a fault: how each of them fits, and at which columns they stand.
+-- Lines without a fault: how each of them fits, and at which columns they are.
 use Rattle.std.proofs.Common.{◌≡◌, ◌<◌, ◌≤◌, ◌++◌, ℕ, true, false, List, [], ◌∷◌, All, Some, None, arith, inl, inr, refl}
 use Rattle.std.specs.Prelude.{◌||◌, nat_lt}
 use Rattle.std.proofs.lemmas.Bool.{and_from, and_parts, cases_Bool, or_from}
@@ -6,10 +6,10 @@ use Rattle.std.proofs.lemmas.Bool.Decides.{nat_tests}
 use Rattle.std.proofs.lemmas.List.Elements.{All-cons, All-head, All-nil, All-tail}
 use Rattle.pm_syn.specs.declared.statement.Stmt.{Stmt}
 use Rattle.pm_grammar.specs.Depths.{depth_of_statement}
-use Rattle.pm_parse.specs.Faults.{fault_behind}
+use Rattle.pm_parse.specs.Faults.{fault_after}
 use Rattle.pm_parse.specs.Forms.{line_of}
-use Rattle.pm_parse.specs.Layout.{begins_body, beside, fits, is_aligned, is_any, is_complete, is_decorated, is_in_place, may_follow, may_precede, may_stand_bare, place_of}
-use Rattle.pm_parse.specs.Places.{body_of, may_stand, may_stand_behind}
+use Rattle.pm_parse.specs.Layout.{begins_body, beside, fits, is_aligned, is_any, is_complete, is_decorated, is_allowed, may_follow, may_precede, needs_no_decorator, kind_of}
+use Rattle.pm_parse.specs.BodyKinds.{body_of, allows, allows_after_colon}
 use Rattle.pm_parse.specs.declared.entry.Entry.{Entry}
 use Rattle.pm_parse.specs.declared.form.LineForm.{LineForm}
 use Rattle.pm_parse.proofs.Answers.{fault_or_none}
@@ -18,29 +18,29 @@ use Rattle.pm_parse.proofs.OpenBodies.{lines_beside}
 
 -- ---- one line
 
--- the line fits between those before it and those behind it
+-- the line fits between those before it and those after it
 pub record FitsBetween (before : List LineForm) (line : LineForm) (next : List Entry) : Type 0 where
   pub aligned : is_aligned before line ≡ true
   pub complete : is_complete line next ≡ true
-  pub placed : may_stand (place_of before line) line.form ≡ true
-  pub filled : may_stand_behind (body_of (place_of before line) line.form) line.behind ≡ true
+  pub allowed : allows (kind_of before line) line.form ≡ true
+  pub filled : allows_after_colon (body_of (kind_of before line) line.form) line.after_colon ≡ true
   pub follows : may_follow line.form (beside before line) ≡ true
-  pub decorated : (may_stand_bare line.form || is_decorated before line) ≡ true
-  pub precedes : may_precede line line.form next ≡ true
+  pub decorated : (needs_no_decorator line.form || is_decorated before line) ≡ true
+  pub precedes : may_precede line.column line.form next ≡ true
 
 -- each part of what a line that fits passes
 fits_between : (before : List LineForm) (line : LineForm) (next : List Entry) → fits before line next ≡ true → FitsBetween before line next
 fits_between before line next fit =
     let aligned = and_parts (is_aligned before line) _ fit in
     let complete = and_parts (is_complete line next) _ aligned.1 in
-    let placed = and_parts (is_in_place before line) _ complete.1 in
-    let filled = and_parts (may_stand (place_of before line) line.form) _ placed.0 in
-    let follows = and_parts (may_follow line.form (beside before line)) _ placed.1 in
-    let decorated = and_parts (may_stand_bare line.form || is_decorated before line) _ follows.1 in
+    let allowed = and_parts (is_allowed before line) _ complete.1 in
+    let filled = and_parts (allows (kind_of before line) line.form) _ allowed.0 in
+    let follows = and_parts (may_follow line.form (beside before line)) _ allowed.1 in
+    let decorated = and_parts (needs_no_decorator line.form || is_decorated before line) _ follows.1 in
     record {
       aligned = aligned.0;
       complete = complete.0;
-      placed = filled.0;
+      allowed = filled.0;
       filled = filled.1;
       follows = follows.0;
       decorated = decorated.0;
@@ -50,39 +50,39 @@ fits_between before line next fit =
 -- a line that passes each part fits
 pub fits_from : (before : List LineForm) (line : LineForm) (next : List Entry) → FitsBetween before line next → fits before line next ≡ true
 fits_from before line next fit =
-    let placed = and_from (may_stand (place_of before line) line.form) (may_stand_behind (body_of (place_of before line) line.form) line.behind) fit.placed fit.filled in
-    let last = and_from (may_stand_bare line.form || is_decorated before line) (may_precede line line.form next) fit.decorated fit.precedes in
+    let allowed = and_from (allows (kind_of before line) line.form) (allows_after_colon (body_of (kind_of before line) line.form) line.after_colon) fit.allowed fit.filled in
+    let last = and_from (needs_no_decorator line.form || is_decorated before line) (may_precede line.column line.form next) fit.decorated fit.precedes in
     let neighbours = and_from (may_follow line.form (beside before line)) _ fit.follows last in
-    and_from (is_aligned before line) _ fit.aligned (and_from (is_complete line next) _ fit.complete (and_from (is_in_place before line) _ placed neighbours))
+    and_from (is_aligned before line) _ fit.aligned (and_from (is_complete line next) _ fit.complete (and_from (is_allowed before line) _ allowed neighbours))
 
--- the line says this, no deeper than may be, and fits, and those behind it have no fault
-pub record IsFaultless (before : List LineForm) (entry : Entry) (statement : Stmt) (behind : List Entry) : Type 0 where
+-- the line says this, no deeper than may be, and fits, and those after it have no fault
+pub record IsFaultless (before : List LineForm) (entry : Entry) (statement : Stmt) (after : List Entry) : Type 0 where
   pub shallow : depth_of_statement statement ≤ 64
-  pub fit : FitsBetween before (line_of entry.column statement) behind
-  pub others : fault_behind (line_of entry.column statement ∷ before) behind ≡ None
+  pub fit : FitsBetween before (line_of entry.column statement) after
+  pub others : fault_after (line_of entry.column statement ∷ before) after ≡ None
 
 -- the first of lines without a fault, with what it says
-pub first_faultless : (before : List LineForm) (entry : Entry) (statement : Stmt) (behind : List Entry) → entry.statement ≡ Some statement
-    → fault_behind before (entry ∷ behind) ≡ None → IsFaultless before entry statement behind
-first_faultless before entry statement behind said none =
+pub first_faultless : (before : List LineForm) (entry : Entry) (statement : Stmt) (after : List Entry) → entry.statement ≡ Some statement
+    → fault_after before (entry ∷ after) ≡ None → IsFaultless before entry statement after
+first_faultless before entry statement after said none =
     let spoken = rw said at none in
     elim (cases_Bool (nat_lt 64 (depth_of_statement statement))) [
       | inl deep ↦ let faulty = rw deep at spoken in cc
       | inr shallow ↦
           let within : depth_of_statement statement ≤ 64 = grind (arith, nat_tests) in
           let fitting = rw shallow at spoken in
-          elim (cases_Bool (fits before (line_of entry.column statement) behind)) [
-            | inl fit ↦ record { shallow = within; fit = fits_between before (line_of entry.column statement) behind fit; others = rw fit at fitting }
+          elim (cases_Bool (fits before (line_of entry.column statement) after)) [
+            | inl fit ↦ record { shallow = within; fit = fits_between before (line_of entry.column statement) after fit; others = rw fit at fitting }
             | inr unfit ↦ let faulty = rw unfit at fitting in cc
           ]
     ]
 
 -- it says something
-pub first_says : (before : List LineForm) (entry : Entry) (behind : List Entry) → fault_behind before (entry ∷ behind) ≡ None
-    → (statement : Stmt) × (entry.statement ≡ Some statement) × IsFaultless before entry statement behind
-first_says before entry behind none =
-    let first = fault_or_none before entry behind entry.statement (λ (statement : Stmt). fault_behind (line_of entry.column statement ∷ before) behind) none in
-    (first.0, first.1, first_faultless before entry first.0 behind first.1 none)
+pub first_says : (before : List LineForm) (entry : Entry) (after : List Entry) → fault_after before (entry ∷ after) ≡ None
+    → (statement : Stmt) × (entry.statement ≡ Some statement) × IsFaultless before entry statement after
+first_says before entry after none =
+    let first = fault_or_none before entry after entry.statement (λ (statement : Stmt). fault_after (line_of entry.column statement ∷ before) after) none in
+    (first.0, first.1, first_faultless before entry first.0 after first.1 none)
 
 -- ---- the columns of a body
 
@@ -90,11 +90,11 @@ first_says before entry behind none =
 abbrev pub IsWithin : ℕ → Entry → Type 0
 IsWithin column entry = column ≤ entry.column
 
--- behind these lines none may stand between the columns of a header and of its body
+-- after these lines no line is allowed between the columns of a header and of its body
 abbrev pub NoneBetween : ℕ → ℕ → List LineForm → Type 0
 NoneBetween outer column before = (between : ℕ) → outer < between → between < column → (begins_body between before ≡ false) × (lines_beside between before ≡ [])
 
--- so it is behind the first line of the body
+-- so it is after the first line of the body
 pub none_between_first : (header first : LineForm) (before : List LineForm) → NoneBetween header.column first.column (first ∷ header ∷ before)
 none_between_first header first before = λ between above below.
     let deeper : nat_lt between first.column ≡ true = grind (arith, nat_tests) in
@@ -103,14 +103,14 @@ none_between_first header first before = λ between above below.
     let less : nat_lt header.column between ≡ true = grind (arith, nat_tests) in
     (rw over refl, rw (deeper, level, less) refl)
 
--- and behind one more line that is no less deep than the body
+-- and after one more line that is no less deep than the body
 none_between_next : (outer column : ℕ) (line : LineForm) (before : List LineForm) → column ≤ line.column → NoneBetween outer column before → NoneBetween outer column (line ∷ before)
 none_between_next outer column line before within none = λ between above below.
     let deeper : nat_lt between line.column ≡ true = grind (arith, nat_tests) in
     let over : nat_lt line.column between ≡ false = grind (arith, nat_tests) in
     (rw over refl, rw deeper (none between above below).1)
 
--- a line that is aligned behind them is no less deep than the body, if it is deeper than the header
+-- a line that is aligned after them is no less deep than the body, if it is deeper than the header
 aligned_within : (outer column : ℕ) (line : LineForm) (before : List LineForm) → outer < line.column → NoneBetween outer column before → is_aligned before line ≡ true → column ≤ line.column
 aligned_within outer column line before deeper none aligned =
     elim (cases_Bool (nat_lt line.column column)) [
@@ -125,7 +125,7 @@ aligned_within outer column line before deeper none aligned =
 
 -- the lines of a body are no less deep than it
 pub lines_within : (outer column : ℕ) (entries rest : List Entry) (before : List LineForm) → All (IsDeeper outer) entries → NoneBetween outer column before
-    → fault_behind before (entries ++ rest) ≡ None → All (IsWithin column) entries
+    → fault_after before (entries ++ rest) ≡ None → All (IsWithin column) entries
 lines_within outer column [] rest before deeper none faultless = All-nil (IsWithin column)
 lines_within outer column (entry ∷ entries) rest before deeper none faultless =
     let first = first_says before entry (entries ++ rest) faultless in

@@ -1,4 +1,4 @@
--- That lines make a file exactly where it is laid out well.
+-- That lines make a file exactly when it is laid out well.
 use Rattle.std.proofs.Common.{List, []}
 use Rattle.std.specs.Prelude.{Ok}
 use Rattle.pm_syn.specs.declared.statement.File.{File}
@@ -20,6 +20,6 @@ laid_out_answer : (lines : List Line) (file : File) → IsLaidOutFile lines file
 laid_out_answer lines file laid_out =
     (laid_out.entries, laid_out.said, (file_faultless laid_out.entries file.nodes laid_out.shallow laid_out.aligned laid_out.laid_out, aligned_trees 0 laid_out.entries file.nodes laid_out.aligned))
 
--- lines make a file exactly where it is laid out well
+-- lines make a file exactly when it is laid out well
 pub files_are_laid_out : FilesAreLaidOut
 files_are_laid_out lines file = (answer_laid_out lines file, laid_out_answer lines file)

@@ -14,12 +14,12 @@ no_last {A} (thing ∷ things) seen is none =
     let not_there = subst (λ (xs : List A). None ≡ slice_get xs (length xs - 1)) is none in
     cc
 
--- the last one stands behind the others
+-- the last one comes after the others
 pub some_last : {A : Type 0} (things seen : List A) (last : A) → seen ≡ things → Some last ≡ slice_get seen (length seen - 1) → things ≡ take (length things - 1) things ++ last ∷ []
 some_last {A} things seen last is some =
     let found : slice_get things (length things - 1) ≡ Some last = sym (subst (λ (xs : List A). Some last ≡ slice_get xs (length xs - 1)) is some) in
     let within = slice_get_within things (length things - 1) last found in
     let all : suc (length things - 1) ≡ length things = omega arith in
-    let behind : drop (suc (length things - 1)) things ≡ [] = rw all (drop-length things) in
+    let after : drop (suc (length things - 1)) things ≡ [] = rw all (drop-length things) in
     sym (take-append-drop (length things - 1) things)
-    ∙ ap (λ (xs : List A). take (length things - 1) things ++ xs) (drop_at_item things (length things - 1) last found ∙ ap (λ (xs : List A). last ∷ xs) behind)
+    ∙ ap (λ (xs : List A). take (length things - 1) things ++ xs) (drop_at_item things (length things - 1) last found ∙ ap (λ (xs : List A). last ∷ xs) after)

@@ -3,6 +3,7 @@ pub mod Answers
 pub mod BareLines
 pub mod BodyLines
 pub mod ExpressionNames
+pub mod FileAnswers
 pub mod FileLines
 pub mod FileNames
 pub mod FirstFault
@@ -17,7 +18,7 @@ pub mod NodeForms
 pub mod NodeLines
 pub mod OneAnswer
 pub mod OpenBodies
-pub mod OpenLines
+pub mod EnclosingLines
 pub mod PassedLines
 pub mod ProperNames
 pub mod SpelledExpressions

@@ -13,7 +13,7 @@ use Rattle.pm_grammar.proofs.OneStatement.{tokens_spell_one_statement}
 use Rattle.pm_parse.specs.Answers.{IsAnswerTo}
 use Rattle.pm_parse.specs.Entries.{AreEntries, IsEntry, Says}
 use Rattle.pm_parse.specs.Laws.{FilesHaveOneAnswer}
-use Rattle.pm_parse.specs.ReadOver.{kept}
+use Rattle.pm_parse.specs.Skipped.{kept}
 use Rattle.pm_parse.specs.Trees.{AreTrees, Returns}
 use Rattle.pm_parse.specs.declared.entry.Entry.{Entry}
 use Rattle.pm_parse.specs.declared.fault.ParseFault.{ParseFault}
@@ -47,7 +47,7 @@ one_entries (line ∷ lines) [] others are too = absurd are
 one_entries (line ∷ lines) (entry ∷ entries) [] are too = absurd too
 one_entries (line ∷ lines) (entry ∷ entries) (other ∷ others) are too =
     ap (λ (first : Entry). first ∷ entries) (one_entry line entry other are.0 too.0)
-    ∙ ap (λ (behind : List Entry). other ∷ behind) (one_entries lines entries others are.1 too.1)
+    ∙ ap (λ (after : List Entry). other ∷ after) (one_entries lines entries others are.1 too.1)
 
 -- ---- trees
 
@@ -55,57 +55,57 @@ one_entries (line ∷ lines) (entry ∷ entries) (other ∷ others) are too =
 abbrev pub IsDeeper : ℕ → Entry → Type 0
 IsDeeper column entry = column < entry.column
 
--- the first of the trees: its statement, the lines under it and those behind them
+-- the first of the trees: its statement, the lines inside it and those after them
 record FirstTree (entry : Entry) (entries : List Entry) (nodes : List Node) : Type 0 where
   statement : Stmt
   under : List Entry
-  behind : List Entry
+  after : List Entry
   body : List Node
   others : List Node
   said : entry.statement ≡ Some statement
   deeper : All (IsDeeper entry.column) under
-  returns : Returns entry.column behind
+  returns : Returns entry.column after
   inner : AreTrees under body
-  outer : AreTrees behind others
-  split : entries ≡ under ++ behind
+  outer : AreTrees after others
+  split : entries ≡ under ++ after
   made : nodes ≡ roll-Node (record { line = entry.number; stmt = statement; body = body }) ∷ others
 
 -- trees of some lines have a first one
 first_tree : (entry : Entry) (entries : List Entry) (nodes : List Node) → AreTrees (entry ∷ entries) nodes → FirstTree entry entries nodes
-first_tree _ _ _ (AreTrees.line entry statement under behind body nodes said deeper returns inner outer) =
-    record { statement = statement; under = under; behind = behind; body = body; others = nodes; said = said; deeper = deeper; returns = returns; inner = inner; outer = outer; split = refl; made = refl }
+first_tree _ _ _ (AreTrees.line entry statement under after body nodes said deeper returns inner outer) =
+    record { statement = statement; under = under; after = after; body = body; others = nodes; said = said; deeper = deeper; returns = returns; inner = inner; outer = outer; split = refl; made = refl }
 
 -- no lines have no trees
 no_trees : (nodes : List Node) → AreTrees [] nodes → nodes ≡ []
 no_trees _ AreTrees.no_lines = refl
 
--- lines are cut in one way into deeper ones and those behind them
-one_split : (column : ℕ) (under behind others left : List Entry) → All (IsDeeper column) under → Returns column behind
-    → All (IsDeeper column) others → Returns column left → under ++ behind ≡ others ++ left → (under ≡ others) × (behind ≡ left)
-one_split column [] behind [] left deeper returns too also same = (refl, same)
-one_split column [] behind (other ∷ others) left deeper returns too also same =
+-- lines are cut in one way into deeper ones and those after them
+one_split : (column : ℕ) (under after others left : List Entry) → All (IsDeeper column) under → Returns column after
+    → All (IsDeeper column) others → Returns column left → under ++ after ≡ others ++ left → (under ≡ others) × (after ≡ left)
+one_split column [] after [] left deeper returns too also same = (refl, same)
+one_split column [] after (other ∷ others) left deeper returns too also same =
     let back : other.column ≤ column = subst (Returns column) same returns in
     let deep : column < other.column = All-head (IsDeeper column) other others too in
     absurd (omega arith)
-one_split column (entry ∷ under) behind [] left deeper returns too also same =
+one_split column (entry ∷ under) after [] left deeper returns too also same =
     let back : entry.column ≤ column = subst (Returns column) (sym same) also in
     let deep : column < entry.column = All-head (IsDeeper column) entry under deeper in
     absurd (omega arith)
-one_split column (entry ∷ under) behind (other ∷ others) left deeper returns too also same =
+one_split column (entry ∷ under) after (other ∷ others) left deeper returns too also same =
     let first : entry ≡ other = cc in
-    let inside : under ++ behind ≡ others ++ left = cc in
-    let rest = one_split column under behind others left (All-tail (IsDeeper column) entry under deeper) returns (All-tail (IsDeeper column) other others too) also inside in
+    let inside : under ++ after ≡ others ++ left = cc in
+    let rest = one_split column under after others left (All-tail (IsDeeper column) entry under deeper) returns (All-tail (IsDeeper column) other others too) also inside in
     (ap (λ (e : Entry). e ∷ under) first ∙ ap (λ (es : List Entry). other ∷ es) rest.0, rest.1)
 
 -- lines have one list of trees
 one_trees : (entries : List Entry) (one other : List Node) → AreTrees entries one → AreTrees entries other → one ≡ other
 one_trees _ _ other AreTrees.no_lines too = sym (no_trees other too)
-one_trees _ _ other (AreTrees.line entry statement under behind body nodes said deeper returns inner outer) too =
-    let first = first_tree entry (under ++ behind) other too in
-    let same = one_split entry.column under behind first.under first.behind deeper returns first.deeper first.returns first.split in
+one_trees _ _ other (AreTrees.line entry statement under after body nodes said deeper returns inner outer) too =
+    let first = first_tree entry (under ++ after) other too in
+    let same = one_split entry.column under after first.under first.after deeper returns first.deeper first.returns first.split in
     let statements : statement ≡ first.statement = same_Some statement first.statement (sym said ∙ first.said) in
     let bodies = one_trees under body first.body inner (subst (λ (es : List Entry). AreTrees es first.body) (sym same.0) first.inner) in
-    let others = one_trees behind nodes first.others outer (subst (λ (es : List Entry). AreTrees es first.others) (sym same.1) first.outer) in
+    let others = one_trees after nodes first.others outer (subst (λ (es : List Entry). AreTrees es first.others) (sym same.1) first.outer) in
     ap (λ (s : Stmt). roll-Node (record { line = entry.number; stmt = s; body = body }) ∷ nodes) statements
     ∙ ap (λ (b : List Node). roll-Node (record { line = entry.number; stmt = first.statement; body = b }) ∷ nodes) bodies
     ∙ ap (λ (ns : List Node). roll-Node (record { line = entry.number; stmt = first.statement; body = first.body }) ∷ ns) others

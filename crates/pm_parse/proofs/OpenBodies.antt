@@ -1,24 +1,24 @@
--- What the open bodies say of the lines that a line stands under and beside.
+-- What the open bodies say of the lines that a line is inside and beside.
 use Rattle.std.proofs.Common.{◌≡◌, ◌∙◌, ℕ, Bool, true, false, List, [], ◌∷◌, refl, ap, sym, subst, inl, inr, arith}
 use Rattle.std.specs.Prelude.{◌==◌, ◌||◌, nat_lt, if◌then◌else◌, Option, Some, None}
 use Rattle.std.specs.List.{list_any}
 use Rattle.std.proofs.lemmas.Bool.{cases_Bool}
 use Rattle.std.proofs.lemmas.Bool.Decides.{nat_tests}
 use Rattle.pm_parse.specs.Enclosing.{enclosing, siblings}
-use Rattle.pm_parse.specs.Layout.{beside, is_construct, place_of}
+use Rattle.pm_parse.specs.Layout.{beside, is_construct, kind_of}
 use Rattle.pm_parse.specs.LinesBefore.{IsBodyOf, lines_of}
-use Rattle.pm_parse.specs.OpenBodies.{leave, leave_at, body_at, place_at, holds_construct, body_with, with_line, bodies_of}
-use Rattle.pm_parse.specs.Places.{body_of, place_under}
+use Rattle.pm_parse.specs.OpenBodies.{leave, leave_at, body_at, kind_at, holds_construct, body_with, with_line, bodies_of}
+use Rattle.pm_parse.specs.BodyKinds.{body_of, kind_under}
 use Rattle.pm_parse.specs.declared.body.Body.{Body}
 use Rattle.pm_parse.specs.declared.form.LineForm.{LineForm}
 use Rattle.pm_parse.specs.declared.layout.Lines.{Lines}
-use Rattle.pm_parse.specs.declared.place.Place.{Place}
+use Rattle.pm_parse.specs.declared.body_kind.BodyKind.{BodyKind}
 
--- the lines that a line at this column stands under
+-- the lines that a line at this column is inside
 abbrev pub lines_above : ℕ → List LineForm → List LineForm
 lines_above column before = enclosing (λ (l : LineForm). l.column) column before
 
--- the lines that it stands beside
+-- the lines that it is beside
 abbrev pub lines_beside : ℕ → List LineForm → List LineForm
 lines_beside column before = siblings (λ (l : LineForm). l.column) column before
 
@@ -44,7 +44,7 @@ leave-leave_at column deeper (body ∷ outer) less =
       | inr other ↦ rw other refl
     ]
 
--- the bodies of a column before a line and behind it, where the line is deeper
+-- the bodies of a column before a line and after it, where the line is deeper
 leave-deeper : (column : ℕ) (line : LineForm) (before : List LineForm) → nat_lt column line.column ≡ true
     → leave column (bodies_of (line ∷ before)) ≡ leave column (bodies_of before)
 leave-deeper column line before less =
@@ -52,32 +52,32 @@ leave-deeper column line before less =
     ∙ (leave-leave_at column line.column (leave line.column (bodies_of before)) less
     ∙ leave-leave column line.column (bodies_of before) less)
 
--- behind a line that is no deeper its body is the innermost
+-- after a line that is no deeper its body is the innermost
 leave-level : (column : ℕ) (line : LineForm) (before : List LineForm) → nat_lt column line.column ≡ false
     → leave column (bodies_of (line ∷ before)) ≡ with_line line (leave line.column (bodies_of before))
 leave-level column line before level =
     ap (λ (b : Bool). if b then leave column (leave_at line.column (leave line.column (bodies_of before))) else with_line line (leave line.column (bodies_of before))) level
 
--- the open bodies say where a line stands
-pub place_at-bodies_of : (before : List LineForm) (column : ℕ) → place_at column (leave column (bodies_of before)) ≡ place_under (lines_above column before)
-place_at-bodies_of [] column = refl
-place_at-bodies_of (line ∷ before) column =
+-- the open bodies say in which kind of body a line is
+pub kind_at-bodies_of : (before : List LineForm) (column : ℕ) → kind_at column (leave column (bodies_of before)) ≡ kind_under (lines_above column before)
+kind_at-bodies_of [] column = refl
+kind_at-bodies_of (line ∷ before) column =
     elim (cases_Bool (nat_lt column line.column)) [
       | inl deeper ↦
           let other : nat_lt line.column column ≡ false = grind (arith, nat_tests) in
-          ap (place_at column) (leave-deeper column line before deeper)
-          ∙ (place_at-bodies_of before column
+          ap (kind_at column) (leave-deeper column line before deeper)
+          ∙ (kind_at-bodies_of before column
           ∙ rw other refl)
       | inr level ↦
-          ap (place_at column) (leave-level column line before level)
+          ap (kind_at column) (leave-level column line before level)
           ∙ elim (cases_Bool (line.column == column)) [
             | inl there ↦
                 let same : column ≡ line.column = grind (arith, nat_tests) in
                 let other : nat_lt line.column column ≡ false = grind (arith, nat_tests) in
-                rw (there, other) (place_at-bodies_of before line.column ∙ ap (λ (c : ℕ). place_under (lines_above c before)) (sym same))
+                rw (there, other) (kind_at-bodies_of before line.column ∙ ap (λ (c : ℕ). kind_under (lines_above c before)) (sym same))
             | inr apart ↦
                 let under : nat_lt line.column column ≡ true = grind (arith, nat_tests) in
-                rw (apart, under) (ap (λ (place : Place). body_of place line.form) (place_at-bodies_of before line.column))
+                rw (apart, under) (ap (λ (place : BodyKind). body_of place line.form) (kind_at-bodies_of before line.column))
           ]
     ]
 
@@ -104,7 +104,7 @@ has_construct line before column same is =
     ∙ (or-swap (list_any (λ (l : LineForm). is_construct l.form) (lines_beside line.column before)) (is_construct line.form)
     ∙ ap (λ (c : ℕ). is_construct line.form || list_any (λ (l : LineForm). is_construct l.form) (lines_beside c before)) same)
 
--- the innermost body is that of the lines that a line stands beside
+-- the innermost body is that of the lines that a line is beside
 pub body_at-bodies_of : (before : List LineForm) (column : ℕ) → IsBodyOf (lines_beside column before) (body_at column (leave column (bodies_of before)))
 body_at-bodies_of [] column = tt
 body_at-bodies_of (line ∷ before) column =
@@ -133,6 +133,6 @@ module _ (before : List LineForm) (line : LineForm) (lines : Lines) (bodies : Li
   pub body_beside : (body : Option Body) → body ≡ body_at line.column bodies → IsBodyOf (beside before line) body
   body_beside body is = subst (IsBodyOf (beside before line)) (sym (is ∙ ap (body_at line.column) left_of)) (body_at-bodies_of before line.column)
 
-  -- a line at that column stands where this one does
-  pub place_there : (place : Place) → place ≡ place_at line.column bodies → place ≡ place_of before line
-  place_there place is = is ∙ (ap (place_at line.column) left_of ∙ place_at-bodies_of before line.column)
+  -- a line at that column is in the same kind of body
+  pub kind_there : (place : BodyKind) → place ≡ kind_at line.column bodies → place ≡ kind_of before line
+  kind_there place is = is ∙ (ap (kind_at line.column) left_of ∙ kind_at-bodies_of before line.column)

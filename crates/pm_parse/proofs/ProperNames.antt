@@ -4,21 +4,21 @@ use Rattle.std.proofs.lemmas.Bool.{and_from, and_parts}
 use Rattle.std.proofs.lemmas.List.Elements.{All-append, All-cons, All-head, All-nil, All-tail}
 use Rattle.pm_syn.specs.declared.token.Token.{Token}
 use Rattle.pm_syn.specs.Names.{is_keyword, is_spelled_as_name}
-use Rattle.pm_grammar.specs.Marks.{is_name, is_name_kind}
+use Rattle.pm_grammar.specs.Tokens.{is_name, is_name_kind}
 use Rattle.pm_grammar.proofs.TokenTexts.{name_kind_is}
 use Rattle.pm_parse.specs.FileNames.{IsProperName, IsSpelledAsKind, Names, all_names}
 
 -- ---- what holds of each of two lists
 
--- the front of a list
-pub all_front : {A : Type 0} (P : A → Type 0) (xs ys : List A) → All P (xs ++ ys) → All P xs
-all_front P [] ys all = All-nil P
-all_front P (x ∷ xs) ys all = All-cons P x xs (All-head P x (xs ++ ys) all) (all_front P xs ys (All-tail P x (xs ++ ys) all))
+-- a prefix of a list
+pub all_prefix : {A : Type 0} (P : A → Type 0) (xs ys : List A) → All P (xs ++ ys) → All P xs
+all_prefix P [] ys all = All-nil P
+all_prefix P (x ∷ xs) ys all = All-cons P x xs (All-head P x (xs ++ ys) all) (all_prefix P xs ys (All-tail P x (xs ++ ys) all))
 
--- what stands behind the front of a list
-pub all_behind : {A : Type 0} (P : A → Type 0) (xs ys : List A) → All P (xs ++ ys) → All P ys
-all_behind P [] ys all = all
-all_behind P (x ∷ xs) ys all = all_behind P xs ys (All-tail P x (xs ++ ys) all)
+-- what comes after a prefix of a list
+pub all_rest : {A : Type 0} (P : A → Type 0) (xs ys : List A) → All P (xs ++ ys) → All P ys
+all_rest P [] ys all = all
+all_rest P (x ∷ xs) ys all = all_rest P xs ys (All-tail P x (xs ++ ys) all)
 
 -- ---- tokens
 
@@ -30,21 +30,21 @@ AreSpelled tokens = All IsSpelledAsKind tokens
 pub first_spelled : (t : Token) (ts : List Token) → AreSpelled (t ∷ ts) → IsSpelledAsKind t
 first_spelled t ts all = All-head IsSpelledAsKind t ts all
 
--- the tokens behind the first
+-- the tokens after the first
 pub rest_spelled : (t : Token) (ts : List Token) → AreSpelled (t ∷ ts) → AreSpelled ts
 rest_spelled t ts all = All-tail IsSpelledAsKind t ts all
 
 -- the tokens before others
-pub front_spelled : (ts us : List Token) → AreSpelled (ts ++ us) → AreSpelled ts
-front_spelled ts us all = all_front IsSpelledAsKind ts us all
+pub prefix_spelled : (ts us : List Token) → AreSpelled (ts ++ us) → AreSpelled ts
+prefix_spelled ts us all = all_prefix IsSpelledAsKind ts us all
 
--- the tokens behind others
-pub behind_spelled : (ts us : List Token) → AreSpelled (ts ++ us) → AreSpelled us
-behind_spelled ts us all = all_behind IsSpelledAsKind ts us all
+-- the tokens after others
+pub suffix_spelled : (ts us : List Token) → AreSpelled (ts ++ us) → AreSpelled us
+suffix_spelled ts us all = all_rest IsSpelledAsKind ts us all
 
--- the tokens behind others and one more
+-- the tokens after others and one more
 pub after_spelled : (ts us : List Token) (t : Token) → AreSpelled (ts ++ t ∷ us) → AreSpelled us
-after_spelled ts us t all = rest_spelled t us (behind_spelled ts (t ∷ us) all)
+after_spelled ts us t all = rest_spelled t us (suffix_spelled ts (t ∷ us) all)
 
 -- the text of a token that is a name
 pub name_proper : (t : Token) → IsTrue (is_name t) → IsSpelledAsKind t → IsProperName t.text

@@ -1,4 +1,4 @@
--- The names in a file's statements, and that each is spelled as a name and is no keyword.
+-- The names in a file's statements: each is spelled as a name and is no keyword.
 use Rattle.std.specs.Prelude.{◌≡◌, ℕ, IsTrue, All, List, [], ◌∷◌, ◌++◌, map, Option, Some, None, Ok}
 use Rattle.pm_syn.specs.Names.{is_proper_name, is_spelled_as_name}
 use Rattle.pm_syn.specs.declared.expression.Arg.{Arg, Arg-F, fold-Arg}
@@ -12,7 +12,7 @@ use Rattle.pm_syn.specs.declared.token.Token.{Token}
 use Rattle.pm_syn.specs.declared.token.TokenKind.TheVariants as kind
 use Rattle.pm_parse.specs.Answers.{IsFileAnswer}
 
--- names, in the order in which they stand
+-- names, in the order of the text
 abbrev pub Names : Type 0
 Names = List (List ℕ)
 
@@ -63,31 +63,36 @@ abbrev pub names_of_option : Option Expr → Names
 names_of_option None = []
 names_of_option (Some e) = names_of_expression e
 
--- a parameter's name, and those in its annotation and its default
+-- a parameter's name, and the names in its annotation and its default
 abbrev pub names_of_parameter : Par → Names
 names_of_parameter p = p.name ∷ (names_of_option p.note ++ names_of_option p.default)
 
--- the names in a statement, once the statement behind its colon has names
+-- the names in a statement, once the statement after its colon has names
 abbrev pub statement_over : Stmt-F Names → Names
 statement_over (Stmt-F.Import) = []
 statement_over (Stmt-F.Doc) = []
 statement_over (Stmt-F.Pass) = []
 statement_over (Stmt-F.Class name base) = name ∷ optional_name base
-statement_over (Stmt-F.Def name has_self parameters annotation behind) = name ∷ (all_names (map names_of_parameter parameters) ++ (names_of_option annotation ++ optional_names behind))
+statement_over (Stmt-F.Def name has_self parameters annotation after) =
+    name ∷ (all_names (map names_of_parameter parameters)
+    ++ (names_of_option annotation ++ optional_names after))
 statement_over (Stmt-F.Mark name) = name ∷ []
 statement_over (Stmt-F.NonBlocking e) = names_of_expression e
 statement_over (Stmt-F.Return e) = names_of_expression e
 statement_over (Stmt-F.Assert e) = names_of_expression e
-statement_over (Stmt-F.If condition behind) = names_of_expression condition ++ optional_names behind
-statement_over (Stmt-F.Elif condition behind) = names_of_expression condition ++ optional_names behind
-statement_over (Stmt-F.Else behind) = optional_names behind
-statement_over (Stmt-F.For name bounds behind) = name ∷ (all_names (map names_of_expression bounds) ++ optional_names behind)
+statement_over (Stmt-F.If condition after) = names_of_expression condition ++ optional_names after
+statement_over (Stmt-F.Elif condition after) = names_of_expression condition ++ optional_names after
+statement_over (Stmt-F.Else after) = optional_names after
+statement_over (Stmt-F.For name bounds after) =
+    name ∷ (all_names (map names_of_expression bounds) ++ optional_names after)
 statement_over (Stmt-F.Assign op target value) = names_of_expression target ++ names_of_expression value
 statement_over (Stmt-F.JoinLambda target value) = names_of_expression target ++ names_of_expression value
-statement_over (Stmt-F.Note target annotation value) = names_of_expression target ++ (names_of_expression annotation ++ names_of_option value)
+statement_over (Stmt-F.Note target annotation value) =
+    names_of_expression target ++ (names_of_expression annotation ++ names_of_option value)
 statement_over (Stmt-F.Do e) = names_of_expression e
 
--- the names in a statement: of classes, functions, parameters, decorators and loops' variables, and in its expressions
+-- the names in a statement: of classes, functions, parameters, decorators and loops' variables, and in its
+-- expressions
 abbrev pub names_of_statement : Stmt → Names
 names_of_statement = fold-Stmt Names statement_over
 
@@ -107,14 +112,18 @@ names_of nodes = all_names (map names_of_node nodes)
 abbrev pub IsProperName : List ℕ → Type 0
 IsProperName text = IsTrue (is_proper_name text)
 
--- the token is spelled as a name if it is of their kind
+-- if the token's kind is that of names, it is spelled as a name
 abbrev pub IsSpelledAsKind : Token → Type 0
 IsSpelledAsKind token = token.kind ≡ kind.Name → IsTrue (is_spelled_as_name token.text)
 
--- each token of the line that is of the names' kind is spelled as a name
+-- each token of the line whose kind is that of names is spelled as a name
 abbrev pub HasSpelledNames : Line → Type 0
 HasSpelledNames line = All IsSpelledAsKind line.tokens
 
--- every name in a file is spelled as a name and is no keyword, where the lines' names are spelled as names
+-- if the names in the lines are spelled as names, every name in the file is spelled as a name and is no keyword
 abbrev pub FilesHaveProperNames : Type 0
-FilesHaveProperNames = (lines : List Line) (file : File) → All HasSpelledNames lines → IsFileAnswer lines (Ok file) → All IsProperName (names_of file.nodes)
+FilesHaveProperNames =
+    (lines : List Line) (file : File)
+    → All HasSpelledNames lines
+    → IsFileAnswer lines (Ok file)
+    → All IsProperName (names_of file.nodes)

@@ -7,8 +7,8 @@ use Rattle.pm_syn.specs.declared.statement.AssignOp.{AssignOp}
 use Rattle.pm_syn.specs.declared.statement.AssignOp.TheVariants as assign
 use Rattle.pm_syn.specs.declared.statement.Stmt.{Stmt, Stmt-F}
 use Rattle.pm_syn.specs.declared.statement.Stmt.TheViews.{out-Stmt}
-use Rattle.pm_parse.specs.declared.form.Behind.{Behind}
-use Rattle.pm_parse.specs.declared.form.Behind.TheVariants as behind
+use Rattle.pm_parse.specs.declared.form.AfterColon.{AfterColon}
+use Rattle.pm_parse.specs.declared.form.AfterColon.TheVariants as colon
 use Rattle.pm_parse.specs.declared.form.Form.{Form}
 use Rattle.pm_parse.specs.declared.form.Form.TheVariants as form
 use Rattle.pm_parse.specs.declared.form.LineForm.{LineForm}
@@ -45,11 +45,13 @@ function_form name false = form.Block
 function_form name true = if bytes_eq name (codes "construct") then form.Construct else form.Method
 
 -- a decorator of this name
-abbrev pub mark_form : List ℕ → Form
-mark_form name =
-    if bytes_eq name (codes "bitstruct") then form.BitstructMark
-    else if bytes_eq name (codes "update") || (bytes_eq name (codes "update_ff") || bytes_eq name (codes "update_once")) then form.BlockMark
-    else form.OtherMark
+abbrev pub decorator_form : List ℕ → Form
+decorator_form name =
+    if bytes_eq name (codes "bitstruct") then form.BitstructDecorator
+    else if bytes_eq name (codes "update")
+    || (bytes_eq name (codes "update_ff") || bytes_eq name (codes "update_once"))
+    then form.BlockDecorator
+    else form.OtherDecorator
 
 -- an assignment to this target
 abbrev pub assignment_form : AssignOp → Expr → Form
@@ -63,18 +65,18 @@ abbrev pub annotation_form : Expr → Option Expr → Form
 annotation_form target (Some value) = form.State
 annotation_form target None = if is_name target then form.Field else form.Annotation
 
--- an expression that stands alone
+-- an expression alone
 abbrev pub expression_form : Expr → Form
 expression_form e = if is_call e then form.Call else form.Expression
 
--- the form of a statement, whatever stands behind its colon
+-- the form of a statement by its outermost part; what follows a colon doesn't count
 abbrev pub form_at : {A : Type 0} → Stmt-F A → Form
 form_at (Stmt-F.Import) = form.Import
 form_at (Stmt-F.Doc) = form.Doc
 form_at (Stmt-F.Pass) = form.Pass
 form_at (Stmt-F.Class name base) = class_form base
 form_at (Stmt-F.Def name has_self parameters annotation inner) = function_form name has_self
-form_at (Stmt-F.Mark name) = mark_form name
+form_at (Stmt-F.Mark name) = decorator_form name
 form_at (Stmt-F.NonBlocking e) = form.Guard
 form_at (Stmt-F.Return e) = form.Return
 form_at (Stmt-F.Assert e) = form.Assert
@@ -91,25 +93,29 @@ form_at (Stmt-F.Do e) = expression_form e
 abbrev pub form_of : Stmt → Form
 form_of statement = form_at (out-Stmt statement)
 
--- what stands behind the colon of a header that ends its line, or that has this statement there
-abbrev pub behind_colon : Option Stmt → Behind
-behind_colon None = behind.Body
-behind_colon (Some inner) = behind.Statement (form_of inner)
+-- what follows the colon of a header: nothing, or this statement
+abbrev pub after_colon : Option Stmt → AfterColon
+after_colon None = colon.Body
+after_colon (Some inner) = colon.Statement (form_of inner)
 
 -- the same by the statement's outermost part
-abbrev pub behind_at : Stmt-F Stmt → Behind
-behind_at (Stmt-F.Class name base) = behind.Body
-behind_at (Stmt-F.Def name has_self parameters annotation inner) = behind_colon inner
-behind_at (Stmt-F.If condition inner) = behind_colon inner
-behind_at (Stmt-F.Elif condition inner) = behind_colon inner
-behind_at (Stmt-F.Else inner) = behind_colon inner
-behind_at (Stmt-F.For name bounds inner) = behind_colon inner
-behind_at other = behind.NoColon
+abbrev pub after_colon_at : Stmt-F Stmt → AfterColon
+after_colon_at (Stmt-F.Class name base) = colon.Body
+after_colon_at (Stmt-F.Def name has_self parameters annotation inner) = after_colon inner
+after_colon_at (Stmt-F.If condition inner) = after_colon inner
+after_colon_at (Stmt-F.Elif condition inner) = after_colon inner
+after_colon_at (Stmt-F.Else inner) = after_colon inner
+after_colon_at (Stmt-F.For name bounds inner) = after_colon inner
+after_colon_at other = colon.NoColon
 
--- what stands behind the colon of a statement, if it is a header
-abbrev pub behind_of : Stmt → Behind
-behind_of statement = behind_at (out-Stmt statement)
+-- what follows the colon of a statement, if it is a header
+abbrev pub after_colon_of : Stmt → AfterColon
+after_colon_of statement = after_colon_at (out-Stmt statement)
 
 -- the line with this statement, at this column
 abbrev pub line_of : ℕ → Stmt → LineForm
-line_of column statement = record { column = column; form = form_of statement; behind = behind_of statement }
+line_of column statement = record {
+  column = column;
+  form = form_of statement;
+  after_colon = after_colon_of statement;
+}

@@ -1,4 +1,4 @@
--- Which lines make which file, said of the tree: its columns, and what may stand in it.
+-- Which lines make which file, said of the tree: its columns, and what is allowed in it.
 use Rattle.std.specs.Prelude.{◌≡◌, ◌↔◌, ◌<◌, ◌≤◌, ℕ, IfSome, List, [], ◌∷◌, ◌++◌, All, Some, Ok}
 use Rattle.pm_syn.specs.declared.statement.File.{File}
 use Rattle.pm_syn.specs.declared.statement.Node.{Node}
@@ -9,34 +9,35 @@ use Rattle.pm_grammar.specs.Depths.{depth_of_statement}
 use Rattle.pm_parse.specs.Answers.{IsFileAnswer}
 use Rattle.pm_parse.specs.Entries.{AreEntries}
 use Rattle.pm_parse.specs.LaidOutTrees.{AreLaidOut}
-use Rattle.pm_parse.specs.ReadOver.{kept}
+use Rattle.pm_parse.specs.Skipped.{kept}
 use Rattle.pm_parse.specs.declared.entry.Entry.{Entry}
-use Rattle.pm_parse.specs.declared.place.Place.TheVariants as place
+use Rattle.pm_parse.specs.declared.body_kind.BodyKind.TheVariants as kind
 
--- the trees of lines at this column, in their order, each with its body under it at one greater column
+-- the trees of lines at this column, in their order, each with its body at one greater column
 pub data AreAligned : ℕ → List Entry → List Node → Type 0 where
   no_lines : (column : ℕ) → AreAligned column [] []
-  line : (entry : Entry) (statement : Stmt) (deeper : ℕ) (under behind : List Entry) (body nodes : List Node)
+  line : (entry : Entry) (statement : Stmt) (deeper : ℕ) (under after : List Entry) (body nodes : List Node)
       → entry.statement ≡ Some statement → entry.column < deeper
-      → AreAligned deeper under body → AreAligned entry.column behind nodes
-      → AreAligned entry.column (entry ∷ (under ++ behind)) (roll-Node (record { line = entry.number; stmt = statement; body = body }) ∷ nodes)
+      → AreAligned deeper under body → AreAligned entry.column after nodes
+      → AreAligned entry.column (entry ∷ (under ++ after))
+      (roll-Node (record { line = entry.number; stmt = statement; body = body }) ∷ nodes)
 
--- no expression of what the line says is more than 64 deep
+-- no expression in the line's statement is more than 64 deep
 abbrev pub IsShallow : Entry → Type 0
 IsShallow entry = IfSome entry.statement (λ (statement : Stmt). depth_of_statement statement ≤ 64)
 
--- the file is the tree of these lines, which stands in columns and is laid out well
+-- the file is the tree of these lines, and is laid out well
 pub record IsLaidOutFile (lines : List Line) (file : File) : Type 0 where
-  -- what each line says that isn't read over
+  -- the statement of each line that isn't skipped
   pub entries : List Entry
   pub said : AreEntries (kept lines) entries
-  -- no expression in it is too deep
+  -- no expression is too deep
   pub shallow : All IsShallow entries
   -- the tree has one node for each line, and begins at column 0
   pub aligned : AreAligned 0 entries file.nodes
-  -- each node may stand where it stands
-  pub laid_out : AreLaidOut place.File [] file.nodes
+  -- each node is allowed where it is
+  pub laid_out : AreLaidOut kind.File [] file.nodes
 
--- lines make a file exactly where it is their tree so
+-- lines make a file exactly when the file is their tree and is laid out well
 abbrev pub FilesAreLaidOut : Type 0
 FilesAreLaidOut = (lines : List Line) (file : File) → IsFileAnswer lines (Ok file) ↔ IsLaidOutFile lines file

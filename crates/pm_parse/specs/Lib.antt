@@ -1,9 +1,9 @@
 pub mod Enclosing
-pub mod ReadOver
+pub mod Skipped
 pub mod Entries
-pub mod OpenLines
+pub mod EnclosingLines
 pub mod Forms
-pub mod Places
+pub mod BodyKinds
 pub mod Layout
 pub mod OpenBodies
 pub mod LinesBefore

@@ -7,18 +7,20 @@ use Rattle.pm_parse.specs.declared.body.Body.{Body}
 use Rattle.pm_parse.specs.declared.form.LineForm.{LineForm}
 use Rattle.pm_parse.specs.declared.layout.Lines.{Lines}
 
--- the first of some lines
+-- the last line, which is listed first
 abbrev pub nearest_of : List LineForm → Option LineForm
 nearest_of [] = None
 nearest_of (line ∷ before) = Some line
 
--- what is kept of the lines before, which are listed from the nearest
+-- what is kept of the lines before, the last one first
 abbrev pub lines_of : List LineForm → Lines
 lines_of before = record { bodies = bodies_of before; nearest = nearest_of before }
 
--- the body of these lines, which are listed from its last; none where there are no lines
+-- the body of these lines, the last one first; none if there are no lines
 abbrev pub IsBodyOf : List LineForm → Option Body → Type 0
 IsBodyOf [] None = Unit {0}
 IsBodyOf [] (Some body) = ⊥
 IsBodyOf (line ∷ lines) None = ⊥
-IsBodyOf (line ∷ lines) (Some body) = (body.last ≡ line.form) × (body.has_construct ≡ list_any (λ (l : LineForm). is_construct l.form) (line ∷ lines))
+IsBodyOf (line ∷ lines) (Some body) =
+    (body.last ≡ line.form)
+    × (body.has_construct ≡ list_any (λ (l : LineForm). is_construct l.form) (line ∷ lines))

@@ -1,114 +1,97 @@
-//! The bodies that are open at a line.
-ghost use Rattle.std.specs.Prelude.{◌≡◌, OnOk, []};
+//! The bodies that are open after some lines.
+ghost use Rattle.std.specs.Prelude.{◌≡◌, ◌∷◌, OnOk, []};
 ghost use Rattle.pm_parse.specs.OpenBodies as spec;
 
+use crate::body_kind::BodyKind;
 use crate::form::{Form, LineForm};
-use crate::place::Place;
-use pm_io::NoMemory;
-use std::alloc::Global;
-use std::marker::Model;
+use pm_io::{NoMemory, Stack};
 
-/// A body, as far as it goes.
+/// A body, with its lines so far.
 #[derive(Clone, Copy)]
 pub(crate) struct Body {
     /// The column of its lines.
     pub column: u32,
-    pub place: Place,
+    pub kind: BodyKind,
     /// The form of its last line.
     pub last: Form,
-    /// Whether a `construct` stands in it.
+    /// Whether one of its lines is a `construct`.
     pub has_construct: bool,
 }
 
-/// The open bodies: the next line goes on with one of them, or stands under the last line of the innermost. Contracts see
-/// them from the innermost to the file.
-#[derive(Drop)]
-pub(crate) struct OpenBodies {
-    // From the file to the innermost.
-    bodies: Vec<Body>,
+// The functions below take the open bodies, innermost first. The next line continues one of them, or begins the body of
+// the innermost one's last line.
+
+/// Closes the bodies that are deeper than this column.
+pub(crate) fn leave(open_bodies: &mut Stack<Body>, column: u32)
+    ensures { open_bodies.new ≡ spec.leave column open_bodies.old }
+{
+    while is_above(open_bodies, column) {
+        open_bodies.pop();
+    }
 }
 
-impl Model for OpenBodies {
-    ghost use Rattle.std.specs.Prelude.{List, reverse};
-    ghost use Rattle.pm_parse.specs.declared.body.Body.{Body as TheBody};
-
-    ghost Value = { List TheBody };
-
-    ghost view = { λ it. reverse it.bodies.items };
+fn is_above(open_bodies: &Stack<Body>, column: u32) -> bool
+    ensures { result ≡ spec.is_above column open_bodies.now }
+{
+    match open_bodies.top() {
+        Some(body) => body.column > column,
+        None => false,
+    }
 }
 
-impl OpenBodies {
-    pub(crate) fn new(alloc: Global) -> OpenBodies
-        ensures { result ≡ [] }
-    {
-        OpenBodies {
-            bodies: Vec::new(alloc),
-        }
+/// The body at this column, once the deeper ones are closed.
+pub(crate) fn body_at(open_bodies: &Stack<Body>, column: u32) -> Option<Body>
+    ensures { result ≡ spec.body_at column open_bodies.now }
+{
+    match open_bodies.top() {
+        Some(body) if body.column == column => Some(*body),
+        _ => None,
     }
+}
 
-    /// Leaves the bodies that stand deeper than this column.
-    pub(crate) fn leave(&mut self, column: u32)
-        ensures { self.new ≡ spec.leave column self.old }
-    {
-        while self.is_above(column) {
-            self.bodies.pop();
-        }
+/// The kind of the body that a line at this column is in, once the deeper bodies are closed.
+pub(crate) fn kind_at(open_bodies: &Stack<Body>, column: u32) -> BodyKind
+    ensures { result ≡ spec.kind_at column open_bodies.now }
+{
+    match open_bodies.top() {
+        Some(body) => kind_in(body, column),
+        None => BodyKind::File,
     }
+}
 
-    fn is_above(&self, column: u32) -> bool
-        ensures { result ≡ spec.is_above column self.now }
-    {
-        match self.bodies.last() {
-            Some(body) => body.column > column,
-            None => false,
-        }
+/// The kind of the body that a line at this column is in, where this is the innermost body: its own, or that of its last line.
+fn kind_in(innermost: &Body, column: u32) -> BodyKind
+    ensures { result ≡ spec.kind_at column (innermost.now ∷ []) }
+{
+    if innermost.column == column {
+        innermost.kind
+    } else {
+        innermost.kind.body_of(innermost.last)
     }
+}
 
-    /// The body that stands at this column, once the deeper ones are left.
-    pub(crate) fn at(&self, column: u32) -> Option<Body>
-        ensures { result ≡ spec.body_at column self.now }
-    {
-        match self.bodies.last() {
-            Some(body) if body.column == column => Some(*body),
-            _ => None,
-        }
-    }
+/// Adds a line, once the deeper bodies are closed.
+pub(crate) fn add_line(open_bodies: &mut Stack<Body>, line: LineForm) -> Result<(), NoMemory>
+    ensures { OnOk result (open_bodies.new ≡ spec.with_line line open_bodies.old) }
+{
+    let kind = kind_at(open_bodies, line.column);
+    let has_construct = match body_at(open_bodies, line.column) {
+        Some(body) => body.has_construct,
+        None => false,
+    };
+    leave_at(open_bodies, line.column);
+    open_bodies.push(Body {
+        column: line.column,
+        kind,
+        last: line.form,
+        has_construct: has_construct || matches!(line.form, Form::Construct),
+    })
+}
 
-    /// Where a line at this column stands, once the deeper bodies are left.
-    pub(crate) fn place(&self, column: u32) -> Place
-        ensures { result ≡ spec.place_at column self.now }
-    {
-        match self.bodies.last() {
-            Some(body) if body.column == column => body.place,
-            Some(body) => body.place.body_of(body.last),
-            None => Place::File,
-        }
-    }
-
-    /// Adds a line, once the deeper bodies are left.
-    pub(crate) fn add(&mut self, line: LineForm) -> Result<(), NoMemory>
-        ensures { OnOk result (self.new ≡ spec.with_line line self.old) }
-    {
-        let place = self.place(line.column);
-        let has_construct = match self.at(line.column) {
-            Some(body) => body.has_construct,
-            None => false,
-        };
-        self.leave_at(line.column);
-        self.bodies.push(Body {
-            column: line.column,
-            place,
-            last: line.form,
-            has_construct: has_construct || line.form == Form::Construct,
-        })?;
-        Ok(())
-    }
-
-    fn leave_at(&mut self, column: u32)
-        ensures { self.new ≡ spec.leave_at column self.old }
-    {
-        if self.at(column).is_some() {
-            self.bodies.pop();
-        }
+fn leave_at(open_bodies: &mut Stack<Body>, column: u32)
+    ensures { open_bodies.new ≡ spec.leave_at column open_bodies.old }
+{
+    if body_at(open_bodies, column).is_some() {
+        open_bodies.pop();
     }
 }

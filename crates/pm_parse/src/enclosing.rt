@@ -1,97 +1,69 @@
-//! Which lines are read over: functions that print a component, with the lines under them.
+//! Which lines are skipped: functions that print a component, with the lines inside them.
 ghost use Rattle.std.specs.Prelude.{◌≡◌, IfOk, OnOk, List, [], ◌∷◌};
-ghost use Rattle.pm_grammar.specs.Fronts as fronts;
-ghost use Rattle.pm_grammar.specs.Marks as marks;
-ghost use Rattle.pm_parse.specs.OpenLines as lines;
-ghost use Rattle.pm_parse.specs.ReadOver as spec;
+ghost use Rattle.pm_grammar.specs.Prefixes as first;
+ghost use Rattle.pm_grammar.specs.Tokens as grammar;
+ghost use Rattle.pm_parse.specs.EnclosingLines as enclosing;
+ghost use Rattle.pm_parse.specs.Skipped as spec;
 ghost use Rattle.pm_syn.specs.declared.token.Line.{Line as TheLine};
 
 use pm_grammar::is_word;
-use pm_io::NoMemory;
+use pm_io::{NoMemory, Stack};
 use pm_syn::{Line, Token};
-use std::alloc::Global;
-use std::marker::Model;
 
-/// A line, as far as those under it need it.
+/// What lines inside a line need to know of it.
 #[derive(Clone, Copy)]
-struct Header {
+pub(crate) struct EnclosingLine {
     column: u32,
     begins_class: bool,
-    is_read_over: bool,
+    is_skipped: bool,
 }
 
-/// The lines that the next line may stand under: the line before it, and those that this one stands under. Contracts see
-/// them from the nearest to the first.
-#[derive(Drop)]
-pub(crate) struct Enclosing {
-    // From the first to the nearest.
-    headers: Vec<Header>,
+/// Takes the next line, and returns whether it is skipped. The stack holds the lines that the next line may be inside,
+/// innermost first: the line before it, and the lines that this one is inside.
+///
+/// The clauses speak of all lines before it, the last one first.
+pub(crate) fn skips(outer: &mut Stack<EnclosingLine>, line: &Line) -> Result<bool, NoMemory>
+    ensures skipped { (before : List TheLine) → outer.old ≡ enclosing.enclosing_after before → IfOk result (λ skipped. skipped ≡ spec.is_skipped line.now before) }
+    ensures kept { (before : List TheLine) → outer.old ≡ enclosing.enclosing_after before → OnOk result (outer.new ≡ enclosing.enclosing_after (line.now ∷ before)) }
+{
+    leave(outer, line.column);
+    let tokens = line.tokens.as_slice();
+    let is_skipped = is_skipped_under(outer, tokens);
+    outer.push(EnclosingLine {
+        column: line.column,
+        begins_class: begins_class(tokens),
+        is_skipped,
+    })?;
+    Ok(is_skipped)
 }
 
-impl Model for Enclosing {
-    ghost use Rattle.std.specs.Prelude.{List, reverse};
-    ghost use Rattle.pm_parse.specs.declared.enclosing.Header.{Header as TheHeader};
-
-    ghost Value = { List TheHeader };
-
-    ghost view = { λ it. reverse it.headers.items };
+/// Drops the lines that are no less deep than this column.
+fn leave(outer: &mut Stack<EnclosingLine>, column: u32)
+    ensures { outer.new ≡ enclosing.above column outer.old }
+{
+    while is_within(outer, column) {
+        outer.pop();
+    }
 }
 
-impl Enclosing {
-    pub(crate) fn new(alloc: Global) -> Enclosing
-        ensures { result ≡ lines.kept_of [] }
-    {
-        Enclosing {
-            headers: Vec::new(alloc),
-        }
+fn is_within(outer: &Stack<EnclosingLine>, column: u32) -> bool
+    ensures { result ≡ enclosing.is_within column outer.now }
+{
+    match outer.top() {
+        Some(innermost) => innermost.column >= column,
+        None => false,
     }
+}
 
-    /// Takes the next line, and answers whether it is read over.
-    ///
-    /// Its clauses are about all lines before it, from the nearest.
-    pub(crate) fn reads_over(&mut self, line: &Line) -> Result<bool, NoMemory>
-        ensures over { (before : List TheLine) → self.old ≡ lines.kept_of before → IfOk result (λ is_over. is_over ≡ spec.is_read_over line.now before) }
-        ensures kept { (before : List TheLine) → self.old ≡ lines.kept_of before → OnOk result (self.new ≡ lines.kept_of (line.now ∷ before)) }
-    {
-        self.leave(line.column);
-        let tokens = line.tokens.as_slice();
-        let is_read_over = self.is_over(tokens);
-        self.headers.push(Header {
-            column: line.column,
-            begins_class: begins_class(tokens),
-            is_read_over,
-        })?;
-        Ok(is_read_over)
-    }
-
-    /// Leaves the lines that are no less deep than this column.
-    fn leave(&mut self, column: u32)
-        ensures { self.new ≡ lines.above column self.old }
-    {
-        while self.is_within(column) {
-            self.headers.pop();
+/// Whether a line of these tokens is skipped, once the lines that it isn't inside are dropped.
+fn is_skipped_under(outer: &Stack<EnclosingLine>, tokens: &[Token]) -> bool
+    ensures { result ≡ enclosing.is_skipped_under tokens.now outer.now }
+{
+    match outer.top() {
+        Some(innermost) => {
+            innermost.is_skipped || (innermost.begins_class && begins_printer(tokens))
         }
-    }
-
-    fn is_within(&self, column: u32) -> bool
-        ensures { result ≡ lines.is_within column self.now }
-    {
-        match self.headers.last() {
-            Some(header) => header.column >= column,
-            None => false,
-        }
-    }
-
-    /// Whether a line of these tokens is read over, once only those lines are left that it stands under.
-    fn is_over(&self, tokens: &[Token]) -> bool
-        ensures { result ≡ lines.is_over tokens.now self.now }
-    {
-        match self.headers.last() {
-            Some(header) => {
-                header.is_read_over || (header.begins_class && begins_printer(tokens))
-            }
-            None => false,
-        }
+        None => false,
     }
 }
 
@@ -107,16 +79,16 @@ fn begins_printer(tokens: &[Token]) -> bool
     ensures { result ≡ spec.begins_printer tokens.now }
 {
     match tokens.split_first() {
-        Some((first, behind)) => {
+        Some((first, after)) => {
             is_word(b"def", first)
-                && (begins_with(b"line_trace", behind) || begins_with(b"__str__", behind))
+                && (begins_with(b"line_trace", after) || begins_with(b"__str__", after))
         }
         None => false,
     }
 }
 
 fn begins_with(word: &[u8], tokens: &[Token]) -> bool
-    ensures { result ≡ fronts.begins_with (marks.is_word word.now) tokens.now }
+    ensures { result ≡ first.begins_with (grammar.is_word word.now) tokens.now }
 {
     match tokens.first() {
         Some(first) => is_word(word, first),

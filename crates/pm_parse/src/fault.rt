@@ -4,17 +4,17 @@ ghost use Rattle.std.specs.Prelude.{◌≡◌};
 use pm_io::NoMemory;
 use thiserror::Error;
 
-/// Why logical lines make no file. Each fault but the last names a line of the text, counted from 1.
+/// Why logical lines make no file. Each fault except `NoMemory` names a line of the text, counted from 1.
 #[derive(Clone, Copy, Debug, Drop, Error, PartialEq, Eq)]
 pub enum ParseFault {
     /// The line's tokens spell no statement.
     #[error("line {0}: the line is no statement")]
     Syntax(u32),
-    /// They spell one with an expression that is more than 64 deep.
+    /// They spell a statement with an expression that is more than 64 deep.
     #[error("line {0}: an expression is more than 64 deep")]
     TooDeep(u32),
-    /// They spell one that may not stand there: behind or before such lines, or at that column.
-    #[error("line {0}: no such line may stand there")]
+    /// They spell a statement that isn't allowed there: at that column, after the lines before it, or before those after it.
+    #[error("line {0}: no such line is allowed there")]
     Layout(u32),
     /// Memory ran out.
     #[error("out of memory")]

@@ -5,11 +5,11 @@ ghost use Rattle.pm_parse.specs.Forms as spec;
 use pm_io::{Boxed, Text};
 use pm_syn::{AssignOp, Expr, Stmt};
 
-/// The form of a statement: what decides where it may stand.
-#[derive(Clone, Copy, PartialEq, Eq)]
+/// The form of a statement: what decides where it is allowed.
+#[derive(Clone, Copy)]
 pub(crate) enum Form {
     Import,
-    /// A string that stands alone.
+    /// A string alone.
     Doc,
     Pass,
     /// `NAME = e`.
@@ -26,9 +26,9 @@ pub(crate) enum Form {
     Annotation,
     /// `e : e = e`.
     State,
-    /// A call that stands alone.
+    /// A call alone.
     Call,
-    /// Another expression that stands alone.
+    /// Another expression alone.
     Expression,
     Assert,
     Return,
@@ -51,21 +51,21 @@ pub(crate) enum Form {
     /// A function without parameters.
     Block,
     /// `@bitstruct`.
-    BitstructMark,
+    BitstructDecorator,
     /// `@update`, `@update_ff` or `@update_once`.
-    BlockMark,
+    BlockDecorator,
     /// `@non_blocking( .. )`.
     Guard,
     /// Another decorator.
-    OtherMark,
+    OtherDecorator,
 }
 
-/// What stands behind the colon of a header.
-#[derive(Clone, Copy, PartialEq, Eq)]
-pub(crate) enum Behind {
+/// What follows the colon of a header.
+#[derive(Clone, Copy)]
+pub(crate) enum AfterColon {
     /// The line is no header.
     NoColon,
-    /// Nothing: the header's body stands under it.
+    /// Nothing: deeper lines are the header's body.
     Body,
     /// A statement of this form, which is the header's body.
     Statement(Form),
@@ -76,7 +76,7 @@ pub(crate) enum Behind {
 pub(crate) struct LineForm {
     pub column: u32,
     pub form: Form,
-    pub behind: Behind,
+    pub after_colon: AfterColon,
 }
 
 impl LineForm {
@@ -87,12 +87,12 @@ impl LineForm {
         LineForm {
             column,
             form: form_of(statement),
-            behind: behind_of(statement),
+            after_colon: after_colon_of(statement),
         }
     }
 }
 
-/// The form of the statement, whatever stands behind its colon.
+/// The form of the statement, whatever follows its colon.
 pub(crate) fn form_of(statement: &Stmt) -> Form
     ensures { result ≡ spec.form_of statement.now }
 {
@@ -102,7 +102,7 @@ pub(crate) fn form_of(statement: &Stmt) -> Form
         Stmt::Pass => Form::Pass,
         Stmt::Class(_, base) => class_form(base),
         Stmt::Def(name, has_self, _, _, _) => function_form(name.as_slice(), *has_self),
-        Stmt::Mark(name) => mark_form(name.as_slice()),
+        Stmt::Mark(name) => decorator_form(name.as_slice()),
         Stmt::NonBlocking(_) => Form::Guard,
         Stmt::Return(_) => Form::Return,
         Stmt::Assert(_) => Form::Assert,
@@ -117,17 +117,17 @@ pub(crate) fn form_of(statement: &Stmt) -> Form
     }
 }
 
-/// What stands behind the colon of the statement, if it is a header.
-fn behind_of(statement: &Stmt) -> Behind
-    ensures { result ≡ spec.behind_of statement.now }
+/// What follows the colon of the statement, if it is a header.
+fn after_colon_of(statement: &Stmt) -> AfterColon
+    ensures { result ≡ spec.after_colon_of statement.now }
 {
     match statement {
-        Stmt::Class(_, _) => Behind::Body,
+        Stmt::Class(_, _) => AfterColon::Body,
         Stmt::Def(_, _, _, _, inner)
         | Stmt::If(_, inner)
         | Stmt::Elif(_, inner)
         | Stmt::Else(inner)
-        | Stmt::For(_, _, inner) => behind_colon(inner),
+        | Stmt::For(_, _, inner) => after_colon(inner),
         Stmt::Import
         | Stmt::Doc
         | Stmt::Pass
@@ -138,16 +138,16 @@ fn behind_of(statement: &Stmt) -> Behind
         | Stmt::Assign(_, _, _)
         | Stmt::JoinLambda(_, _)
         | Stmt::Note(_, _, _)
-        | Stmt::Do(_) => Behind::NoColon,
+        | Stmt::Do(_) => AfterColon::NoColon,
     }
 }
 
-fn behind_colon(inner: &Option<Boxed<Stmt>>) -> Behind
-    ensures { result ≡ spec.behind_colon inner.now }
+fn after_colon(inner: &Option<Boxed<Stmt>>) -> AfterColon
+    ensures { result ≡ spec.after_colon inner.now }
 {
     match inner {
-        Some(statement) => Behind::Statement(form_of(statement.get())),
-        None => Behind::Body,
+        Some(statement) => AfterColon::Statement(form_of(statement.get())),
+        None => AfterColon::Body,
     }
 }
 
@@ -174,18 +174,18 @@ fn function_form(name: &[u8], has_self: bool) -> Form
     }
 }
 
-fn mark_form(name: &[u8]) -> Form
-    ensures { result ≡ spec.mark_form name.now }
+fn decorator_form(name: &[u8]) -> Form
+    ensures { result ≡ spec.decorator_form name.now }
 {
     if name == b"bitstruct".as_slice() {
-        Form::BitstructMark
+        Form::BitstructDecorator
     } else if name == b"update".as_slice()
         || name == b"update_ff".as_slice()
         || name == b"update_once".as_slice()
     {
-        Form::BlockMark
+        Form::BlockDecorator
     } else {
-        Form::OtherMark
+        Form::OtherDecorator
     }
 }
 

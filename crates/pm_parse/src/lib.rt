@@ -1,16 +1,19 @@
 //! Reads the logical lines of a design file, as `pm_syn` cuts a text into them, into the tree of their statements.
 //!
-//! The contract of `parse`: the answer is the file whose lines are those that aren't read over, each with the statement
-//! that it spells, and each under the header before it; or the fault of the first faulty line, and there `Syntax` before
-//! `TooDeep` before `Layout`. `laws` says that lines have one such answer, that a file keeps their order, and that the names
-//! in it are proper ones.
+//! The contract of `parse`: it returns the file, or the fault of the first faulty line. A file has a node for each line
+//! that isn't skipped, with the statement that the line spells, in the body of the header that it belongs to. On one line
+//! `Syntax` comes before `TooDeep`, and `TooDeep` before `Layout`.
 //!
-//! `parsing` holds the call and `fault` its faults. `entry` reads what each line says, `enclosing` knows which lines are
-//! read over, `form` is what the layout looks at in a statement, `place` says which forms may stand where, `body` keeps
-//! the bodies that are open, `layout` finds the first fault, and `tree` puts each line under its header.
+//! `laws` says that lines have exactly one such answer, which lines make which file, that a file keeps the order of its
+//! lines, and that the names in it are proper ones.
+//!
+//! `parsing` holds the call and `fault` its faults. `entry` reads the statement of each line, and `enclosing` knows which
+//! lines are skipped. `form` is what the layout looks at in a statement, `body_kind` says which forms are allowed in which
+//! body, `body` keeps the open bodies, and `layout` finds the first fault. `tree` puts each line into its body.
 #![tactic(auto)]
 
 mod body;
+mod body_kind;
 mod enclosing;
 mod entry;
 mod fault;
@@ -18,9 +21,6 @@ mod form;
 pub mod laws;
 mod layout;
 mod parsing;
-mod place;
-#[cfg(test)]
-mod tests;
 mod tree;
 
 pub use fault::ParseFault;

@@ -11,11 +11,11 @@ use crate::tree::trees;
 use pm_syn::{File, Line};
 use std::alloc::Global;
 
-/// The file that logical lines spell, in their order.
+/// The file that logical lines spell, or the fault of the first faulty line.
 ///
-/// A function `line_trace` or `__str__` directly in a class is read over, with the lines under it. Of the other lines the
-/// first faulty one is named: `Syntax` comes where the grammar relates no statement to its tokens, `TooDeep` where it
-/// relates one with an expression that is more than 64 deep, and `Layout` where the statement may not stand there.
+/// A function `line_trace` or `__str__` directly in a class is skipped, with the lines inside it. A line's fault is
+/// `Syntax` if the grammar relates no statement to its tokens, `TooDeep` if the statement has an expression that is more
+/// than 64 deep, and `Layout` if the statement isn't allowed there.
 pub fn parse(alloc: Global, lines: &[Line]) -> Result<File, ParseFault>
     ensures answer { (result ≡ Err ParseFault.NoMemory) ⊎ IsFileAnswer lines.now result }
     ensures only { (answer : Result TheFile TheFault) → IsFileAnswer lines.now answer → (result ≡ Err ParseFault.NoMemory) ⊎ (result ≡ answer) }

@@ -10,7 +10,7 @@ use pm_io::{List, NoMemory};
 use pm_syn::Node;
 use std::alloc::Global;
 
-/// A line with the lines under it, and its column.
+/// A line with the lines inside it, and its column.
 #[derive(Drop)]
 struct Tree {
     column: u32,
@@ -19,20 +19,20 @@ struct Tree {
 
 /// The trees of the lines, each of which has a statement.
 ///
-/// They are made from the last line to the first, so that the lines under a line are there when it comes.
+/// They are made from the last line to the first, so that the trees inside a line are there when the line comes.
 pub(crate) fn trees(alloc: Global, mut entries: List<Entry>) -> Result<List<Node>, NoMemory>
     requires { All (λ (e : TheEntry). IsTrue (is_some e.statement)) entries }
     ensures { IfOk result (λ nodes. spec.AreTrees entries nodes) }
 {
-    let mut behind = List::new(alloc);
+    let mut after = List::new(alloc);
     while let Some(last) = entries.as_slice().last() {
-        let body = take_deeper(alloc, &mut behind, last.column)?;
-        behind.push(take_last(&mut entries, body))?;
+        let body = take_deeper(alloc, &mut after, last.column)?;
+        after.push(take_last(&mut entries, body))?;
     }
-    take_all(alloc, behind)
+    take_all(alloc, after)
 }
 
-/// Takes the last line, and answers its tree with these lines under it.
+/// Takes the last line, and returns its tree with this body.
 fn take_last(entries: &mut List<Entry>, body: List<Node>) -> Tree
     requires some { 0 < length entries.old }
     requires said { All (λ (e : TheEntry). IsTrue (is_some e.statement)) entries.old }
@@ -49,7 +49,7 @@ fn take_last(entries: &mut List<Entry>, body: List<Node>) -> Tree
     }
 }
 
-/// Takes the trees that stand deeper than this column, from the nearest to the last, up to the first that doesn't.
+/// Takes the first trees, in the order of their lines, as long as they are deeper than this column.
 fn take_deeper(alloc: Global, trees: &mut List<Tree>, column: u32) -> Result<List<Node>, NoMemory>
     ensures taken { IfOk result (λ nodes. nodes ≡ stack.nodes_under column (reverse trees.old)) }
     ensures left { OnOk result (reverse trees.new ≡ stack.left_at column (reverse trees.old)) }
@@ -70,7 +70,7 @@ fn is_deeper(trees: &[Tree], column: u32) -> bool
     }
 }
 
-/// Takes all trees, from the nearest to the last.
+/// Takes all trees, in the order of their lines.
 fn take_all(alloc: Global, mut trees: List<Tree>) -> Result<List<Node>, NoMemory>
     ensures { IfOk result (λ nodes. nodes ≡ map (λ (t : TheTree). t.node) (reverse trees)) }
 {

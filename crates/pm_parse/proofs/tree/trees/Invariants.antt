@@ -5,7 +5,7 @@ use Rattle.pm_parse.proofs.tree.trees.Given as goal
 
 abbrev pub invariant-loop-last : goal.invariant-loop-last
 invariant-loop-last l = record {
-  made : AreMade l.fn.entries l.entries l.behind;
+  made : AreMade l.fn.entries l.entries l.after;
   said : All (λ (e : Entry). IsTrue (is_some e.statement)) l.entries;
 }
 
