@@ -1,12 +1,12 @@
-"""Compares what the program `parse_lines` reads with what Python's own parser reads.
+"""Compares what the program `parse_lines` reads with what Python's own tokenizer and parser read.
 
 usage: python_agrees.py FILE                 prints what Python reads in the file
        python_agrees.py --compare PROGRAM FILE..   compares, in the files and in lines made at random
 
-Each logical line is printed as its number and its statement: a list in parentheses of what it is and its parts. A line
-whose statement is outside the subset is `Syntax`, and one with an expression that is more than 64 deep is `TooDeep`. The
-last line is the tree of the lines: the numbers of those under a header stand in brackets behind its number, and the
-functions that print a component are left out.
+Each logical line is printed as its number, its column and its tokens, and under that its statement: a list in
+parentheses of what it is and its parts. A line whose statement is outside the subset is `Syntax`, and one with an
+expression that is more than 64 deep is `TooDeep`. The last line is the tree of the lines: the numbers of those under a
+header follow its number in brackets, and the functions that print a component are left out.
 With `--compare` the lines that differ are printed, and the exit status is then 1. `crates/parse_lines/stdout` is what
 Python reads in the files that `crates/parse_lines/args` names, one after the other.
 """
@@ -415,10 +415,37 @@ def line_reading(line):
         return "Syntax"
 
 
+NO_TOKENS = (tokenize.NL, tokenize.COMMENT, tokenize.INDENT, tokenize.DEDENT, tokenize.ENDMARKER)
+
+
+# The logical lines of a text, by number: the column of the first token, and the tokens.
+def logical_lines(text):
+    lines, current, strings = {}, None, 0
+    for token in tokenize.generate_tokens(io.StringIO(text).readline):
+        kind = tokenize.tok_name[token.type]
+        if token.type == tokenize.NEWLINE:
+            current = None
+        elif token.type not in NO_TOKENS:
+            if current is None:
+                current = lines[token.start[0]] = (token.start[1], [])
+            # from Python 3.12 on a string with a prefix `f` comes in parts
+            if strings or kind == "FSTRING_MIDDLE":
+                current[1][-1] += token.string
+            else:
+                current[1].append(token.string)
+            strings += (kind == "FSTRING_START") - (kind == "FSTRING_END")
+    return lines
+
+
 def file_reading(name):
     with open(name, encoding="utf-8") as file:
         text = file.read()
-    return [f"{number} {says}" for number, says in sorted(Reading(text).lines.items())] + [outline(text)]
+    lines = logical_lines(text)
+    read = []
+    for number, says in sorted(Reading(text).lines.items()):
+        column, tokens = lines[number]
+        read += [f"{number} {column} {' '.join(tokens)}", f"  {says}"]
+    return read + [outline(text)]
 
 
 def program_reading(program, name):
@@ -432,9 +459,18 @@ def differences(name, python, program, texts):
         ours, theirs = (lines[place] if place < len(lines) else "nothing" for lines in (program, python))
         if ours != theirs:
             count += 1
-            print(f"{name}:", *texts[place : place + 1])
+            print(f"{name}:", *texts[place // 2 : place // 2 + 1])
             print(f"  the program: {ours}\n  Python:      {theirs}")
     return count
+
+
+# The tokens of a line of a text that is no Python as a whole, or nothing where Python finds none.
+def line_tokens(number, text):
+    try:
+        ((column, tokens),) = logical_lines(text + "\n").values()
+        return f"{number} {column} {' '.join(tokens)}"
+    except (SyntaxError, ValueError, tokenize.TokenError):
+        return f"{number} 0 {text}"
 
 
 def compare(program, names):
@@ -442,12 +478,14 @@ def compare(program, names):
     total = 0
     for name in names:
         python = file_reading(name)
-        total += len(python)
+        total += len(python) // 2
         count += differences(name, python, program_reading(program, name), [])
     maker = Maker(SEED)
     texts = [maker.statement() for _ in range(LINES)] + list(deep_lines())
     total += len(texts)
-    python = [f"{number} {line_reading(text)}" for number, text in enumerate(texts, 1)]
+    python = []
+    for number, text in enumerate(texts, 1):
+        python += [line_tokens(number, text), f"  {line_reading(text)}"]
     with tempfile.NamedTemporaryFile("w", suffix=".py") as file:
         file.write("\n".join(texts) + "\n")
         file.flush()

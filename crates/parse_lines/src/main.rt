@@ -1,6 +1,6 @@
-//! The program `parse_lines`: reads files, and prints of each logical line its number and the statement that it spells
-//! or its fault, and then the tree of the lines or the first fault of the file; or else the fault of the text.
-//! `tests/python_agrees.sh` compares this with what Python reads.
+//! The program `parse_lines`: reads files, and prints of each logical line its number, its column and its tokens, and under
+//! that its statement or its fault; then the tree of the lines or the first fault of the file. If the text itself has a
+//! fault, it prints that. `tests/python_agrees.sh` compares this with what Python reads.
 #![tactic(auto)]
 
 use pm_io::{HostStore, Loaded, Store};
@@ -34,8 +34,7 @@ fn print_file(rt: &HostRuntime, name: &[u8]) -> io::Result<()> {
     match lex(alloc, text.as_slice()) {
         Ok(lines) => {
             for line in lines.as_slice() {
-                let reading = reading_of(alloc, line)?;
-                rt.write_all(reading.as_slice())?;
+                print_line(rt, line)?;
             }
             let tree = tree_of(alloc, lines.as_slice())?;
             rt.write_all(tree.as_slice())
@@ -44,9 +43,28 @@ fn print_file(rt: &HostRuntime, name: &[u8]) -> io::Result<()> {
     }
 }
 
-// The number of the line, what it is read as, and a line end.
+fn print_line(rt: &HostRuntime, line: &Line) -> io::Result<()> {
+    let tokens = tokens_of(rt.alloc(), line)?;
+    rt.write_all(tokens.as_slice())?;
+    let reading = reading_of(rt.alloc(), line)?;
+    rt.write_all(reading.as_slice())
+}
+
+// The number of the line, its column, its tokens, and a line end.
+fn tokens_of(alloc: Global, line: &Line) -> Result<Vec<u8>, AllocError> {
+    let number = format!(in alloc; "{} {}", line.number, line.column)?;
+    let mut text = Vec::from_slice(alloc, number.as_bytes())?;
+    for token in line.tokens.as_slice() {
+        text.push(b' ')?;
+        text.extend_from_slice(token.text.as_slice())?;
+    }
+    text.push(b'\n')?;
+    Ok(text)
+}
+
+// What the line is read as, and a line end.
 fn reading_of(alloc: Global, line: &Line) -> Result<Vec<u8>, AllocError> {
-    let mut text = Vec::from_slice(alloc, format!(in alloc; "{} ", line.number)?.as_bytes())?;
+    let mut text = Vec::from_slice(alloc, b"  ")?;
     match parse_line(alloc, line) {
         Ok(statement) => write_statement(alloc, &statement, &mut text)?,
         Err(fault) => text.extend_from_slice(format!(in alloc; "{fault:?}")?.as_bytes())?,
