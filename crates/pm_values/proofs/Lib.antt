@@ -1,0 +1,10 @@
+pub mod Counts
+pub mod Divisions
+pub mod Logarithms
+pub mod OnBits
+pub mod Powers
+pub mod Ranges
+pub mod Shifts
+pub mod Steps
+pub mod Tables
+pub mod Turned

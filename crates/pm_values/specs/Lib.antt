@@ -1,0 +1,4 @@
+pub mod IntegerLaws
+pub mod Integers
+pub mod Ranges
+pub mod Tables
