@@ -1,4 +1,4 @@
--- The blocks at the places of an order, one after another.
+-- The blocks at the indices of an order, one after another.
 use Rattle.std.proofs.Common.{◌≡◌, ◌∙◌, ◌<◌, ◌+◌, ℕ, List, ◌∷◌, length, drop, get_or, refl, ap, sym, drop-cons, add-one}
 use Rattle.std.specs.List.{cons_option}
 use Rattle.std.proofs.lemmas.Option.{slice_get_read}
@@ -8,7 +8,7 @@ use Rattle.pm_job.specs.Precedence.{blocks_at}
 use Rattle.pm_job.specs.Progress.{arranged}
 use Rattle.pm_job.specs.Vectors.{header_of}
 
--- the blocks from one place of the order on begin with that block
+-- the blocks from one index of the order on begin with that block
 pub blocks_at-drop : (blocks : List Assignment) (order : List ℕ) (index : ℕ) (block : Assignment) → index < length order → get_or order index 0 < length blocks
     → block ≡ get_or blocks (get_or order index 0) block → blocks_at blocks (drop index order) ≡ block ∷ blocks_at blocks (drop (index + 1) order)
 blocks_at-drop blocks order index block within inside is =

@@ -17,21 +17,21 @@ port_name-port signal shown = ap (λ (b : Bool). if b then blank ∷ signal.name
 pub port_value-port : (signal : Signal) (value : Word) → is_port signal.role ≡ true → port_value signal value ≡ (blank ∷ []) ++ hex_of value
 port_value-port signal value shown = ap (λ (b : Bool). if b then blank ∷ hex_of value else []) shown
 
--- the names from one place on begin with that signal's
-pub port_names-drop : (signals : List Signal) (place : ℕ) (signal : Signal) → place < length signals → signal ≡ get_or signals place signal
-    → port_names (drop place signals) ≡ port_name signal ++ port_names (drop (place + 1) signals)
-port_names-drop signals place signal within is =
-    ap port_names (drop-cons signals place signal within)
-    ∙ ap₂ (λ (s : Signal) (n : ℕ). port_name s ++ port_names (drop n signals)) (sym is) (sym (add-one place))
+-- the names from one index on begin with that signal's
+pub port_names-drop : (signals : List Signal) (index : ℕ) (signal : Signal) → index < length signals → signal ≡ get_or signals index signal
+    → port_names (drop index signals) ≡ port_name signal ++ port_names (drop (index + 1) signals)
+port_names-drop signals index signal within is =
+    ap port_names (drop-cons signals index signal within)
+    ∙ ap₂ (λ (s : Signal) (n : ℕ). port_name s ++ port_names (drop n signals)) (sym is) (sym (add-one index))
 
--- the values from one place on begin with that signal's
-pub port_values-drop : (signals : List Signal) (values : List Word) (place : ℕ) (signal : Signal) (value : Word) → place < length signals → place < length values
-    → signal ≡ get_or signals place signal → value ≡ get_or values place value
-    → port_values (drop place signals) (drop place values) ≡ port_value signal value ++ port_values (drop (place + 1) signals) (drop (place + 1) values)
-port_values-drop signals values place signal value within inside is has =
-    ap₂ port_values (drop-cons signals place signal within) (drop-cons values place value inside)
-    ∙ (ap₂ (λ (s : Signal) (v : Word). port_value s v ++ port_values (drop (suc place) signals) (drop (suc place) values)) (sym is) (sym has)
-    ∙ ap (λ (n : ℕ). port_value signal value ++ port_values (drop n signals) (drop n values)) (sym (add-one place)))
+-- the values from one index on begin with that signal's
+pub port_values-drop : (signals : List Signal) (values : List Word) (index : ℕ) (signal : Signal) (value : Word) → index < length signals → index < length values
+    → signal ≡ get_or signals index signal → value ≡ get_or values index value
+    → port_values (drop index signals) (drop index values) ≡ port_value signal value ++ port_values (drop (index + 1) signals) (drop (index + 1) values)
+port_values-drop signals values index signal value within inside is has =
+    ap₂ port_values (drop-cons signals index signal within) (drop-cons values index value inside)
+    ∙ (ap₂ (λ (s : Signal) (v : Word). port_value s v ++ port_values (drop (suc index) signals) (drop (suc index) values)) (sym is) (sym has)
+    ∙ ap (λ (n : ℕ). port_value signal value ++ port_values (drop n signals) (drop n values)) (sym (add-one index)))
 
 -- the digits begin with the highest one
 pub hex_digits-next : (left number : ℕ) → 0 < left
@@ -55,7 +55,7 @@ pub queued_more : (old mid new : Option (List ℕ)) (waiting waiting' waiting'' 
 queued_more old mid new waiting waiting' waiting'' part rest rest' whole done splits more =
     (done.0 ++ part, queues_on old mid new waiting waiting' waiting'' done.0 part (done.0 ++ part) put.All refl done.1 more, goes_on done.0 part rest rest' whole done.2 splits)
 
--- the rest begins with a part, of which a front may have gone out
+-- the rest begins with a part, of which a prefix may have gone out
 pub queued_failed : (old mid new : Option (List ℕ)) (waiting waiting' waiting'' part rest rest' whole : List ℕ) → Queued old mid waiting waiting' rest whole
     → rest ≡ part ++ rest' → Queues mid new waiting' waiting'' part put.Failed → Queues old new waiting waiting'' whole put.Failed
 queued_failed old mid new waiting waiting' waiting'' part rest rest' whole done splits more =

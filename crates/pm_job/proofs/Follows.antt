@@ -21,7 +21,7 @@ use Rattle.pm_job.specs.Trace.{inputs_of, row_text}
 use Rattle.pm_job.specs.Values.{value_widths}
 use Rattle.pm_job.specs.Progress.{IsReady, Fits, next_values, after, follow, GoesOn, GivesRow, GivesNoRow, EndsRows}
 
--- the row behind `reset` has the widths of the other inputs
+-- the row after `reset` has the widths of the other inputs
 pub fits-inputs : (component : Component) (values row : List Word) → IsReady component → Fits component values row → value_widths (drop 1 row) ≡ input_widths component
 fits-inputs component values row ready fits =
     drop_first row (input_widths component) (fits.each_input ∙ (ap (λ signals. widths_of (inputs_of signals)) ready.begins.1

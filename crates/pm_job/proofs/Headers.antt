@@ -6,29 +6,29 @@ use Rattle.std.proofs.lemmas.Bool.{cases_Bool}
 use Rattle.std.proofs.lemmas.Slice.Eq.{bytes_eq-Decides}
 use Rattle.std.proofs.lemmas.List.{append-nil, append_cancel_left, take-append-drop, take_at, drop_at, drop_more}
 use Rattle.pm_design.specs.declared.signal.Signal.{Signal}
-use Rattle.pm_job.specs.Words.{blank, behind}
+use Rattle.pm_job.specs.Words.{blank, without_prefix}
 use Rattle.pm_job.specs.declared.component.Component.{Component}
 use Rattle.pm_job.specs.Trace.{is_input}
 use Rattle.pm_job.specs.Vectors.{header_of}
 
-behind_cases : (same : Bool) (front prefix text rest : List ℕ) → (same ≡ true → front ≡ prefix) → front ++ rest ≡ text
+without_prefix_cases : (same : Bool) (start prefix text rest : List ℕ) → (same ≡ true → start ≡ prefix) → start ++ rest ≡ text
     → (found : List ℕ) → (if same then Some rest else None) ≡ Some found → text ≡ prefix ++ found
-behind_cases true front prefix text rest says whole found is =
+without_prefix_cases true start prefix text rest says whole found is =
     let found_is : rest ≡ found = cc in
     sym whole ∙ ap (λ t. t ++ rest) (says refl) ∙ ap (λ t. prefix ++ t) found_is
-behind_cases false front prefix text rest says whole found is = cc
+without_prefix_cases false start prefix text rest says whole found is = cc
 
--- a text with a prefix is the prefix and what stands behind it
-pub behind_some : (prefix text found : List ℕ) → behind prefix text ≡ Some found → text ≡ prefix ++ found
-behind_some prefix text found is =
-    behind_cases _ (take (length prefix) text) prefix text _ (bytes_eq-Decides (take (length prefix) text) prefix).0 (take-append-drop (length prefix) text) found is
+-- a text with a prefix is the prefix and what stands after it
+pub without_prefix_some : (prefix text found : List ℕ) → without_prefix prefix text ≡ Some found → text ≡ prefix ++ found
+without_prefix_some prefix text found is =
+    without_prefix_cases _ (take (length prefix) text) prefix text _ (bytes_eq-Decides (take (length prefix) text) prefix).0 (take-append-drop (length prefix) text) found is
 
 -- a text that begins with a prefix has it
-pub behind_append : (prefix rest : List ℕ) → behind prefix (prefix ++ rest) ≡ Some rest
-behind_append prefix rest =
+pub without_prefix_append : (prefix rest : List ℕ) → without_prefix prefix (prefix ++ rest) ≡ Some rest
+without_prefix_append prefix rest =
     rw (take_at prefix rest (length prefix) refl, drop_at prefix rest (length prefix) refl, (bytes_eq-Decides prefix prefix).1 refl)
 
--- the inputs of these signals, each behind a blank but for the first one, which has a separator of its own
+-- the inputs of these signals, each after a blank but for the first one, which has a separator of its own
 abbrev pub listed : List ℕ → List Signal → List ℕ
 listed separator [] = []
 listed separator (signal ∷ signals) =
@@ -54,17 +54,17 @@ listed_all (signal ∷ signals) =
       | inr other ↦ rw other (listed_all signals)
     ]
 
--- an input at a place
-pub listed_input : (separator : List ℕ) (signals : List Signal) (place : ℕ) (signal : Signal) → place < length signals → signal ≡ get_or signals place signal
+-- an input at an index
+pub listed_input : (separator : List ℕ) (signals : List Signal) (index : ℕ) (signal : Signal) → index < length signals → signal ≡ get_or signals index signal
     → is_input signal.role ≡ true
-    → listed separator (drop place signals) ≡ separator ++ (signal.name ++ listed (blank ∷ []) (drop (place + 1) signals))
-listed_input separator signals place signal inside is input =
-    rw (drop_more signals place signal inside, ← is, input) refl
+    → listed separator (drop index signals) ≡ separator ++ (signal.name ++ listed (blank ∷ []) (drop (index + 1) signals))
+listed_input separator signals index signal inside is input =
+    rw (drop_more signals index signal inside, ← is, input) refl
 
--- a signal at a place that is no input
-pub listed_other : (separator : List ℕ) (signals : List Signal) (place : ℕ) (signal : Signal) → place < length signals → signal ≡ get_or signals place signal
-    → is_input signal.role ≡ false → listed separator (drop place signals) ≡ listed separator (drop (place + 1) signals)
-listed_other separator signals place signal inside is other = rw (drop_more signals place signal inside, ← is, other) refl
+-- a signal at an index that is no input
+pub listed_other : (separator : List ℕ) (signals : List Signal) (index : ℕ) (signal : Signal) → index < length signals → signal ≡ get_or signals index signal
+    → is_input signal.role ≡ false → listed separator (drop index signals) ≡ listed separator (drop (index + 1) signals)
+listed_other separator signals index signal inside is other = rw (drop_more signals index signal inside, ← is, other) refl
 
 -- a line is the header just where its rest is the text that is left of the header
 pub record Follows (line header rest left : List ℕ) : Type 0 where
@@ -85,11 +85,11 @@ follows_start component line separator signals nothing same =
     record { there = λ is. is ∙ sym whole; back = λ is. is ∙ whole }
 
 -- a separator and a name were taken off both
-pub follows_behind : (line header rest separator name left at more : List ℕ) → Follows line header rest (separator ++ (name ++ left))
-    → behind separator rest ≡ Some at → behind name at ≡ Some more → Follows line header more left
-follows_behind line header rest separator name left at more follows first second =
-    let one : rest ≡ separator ++ at = behind_some separator rest at first in
-    let two : at ≡ name ++ more = behind_some name at more second in
+pub follows_after : (line header rest separator name left at more : List ℕ) → Follows line header rest (separator ++ (name ++ left))
+    → without_prefix separator rest ≡ Some at → without_prefix name at ≡ Some more → Follows line header more left
+follows_after line header rest separator name left at more follows first second =
+    let one : rest ≡ separator ++ at = without_prefix_some separator rest at first in
+    let two : at ≡ name ++ more = without_prefix_some name at more second in
     let whole : rest ≡ separator ++ (name ++ more) = one ∙ ap (λ t. separator ++ t) two in
     record {
       there = λ same. append_cancel_left name more left (append_cancel_left separator (name ++ more) (name ++ left) (sym whole ∙ follows.there same));
@@ -97,16 +97,16 @@ follows_behind line header rest separator name left at more follows first second
     }
 
 -- a separator is missing
-pub follows_no_separator : (line header rest separator left : List ℕ) → Follows line header rest (separator ++ left) → behind separator rest ≡ None → line ≢ header
+pub follows_no_separator : (line header rest separator left : List ℕ) → Follows line header rest (separator ++ left) → without_prefix separator rest ≡ None → line ≢ header
 follows_no_separator line header rest separator left follows none same =
-    let found : behind separator rest ≡ Some left = ap (behind separator) (follows.there same) ∙ behind_append separator left in
+    let found : without_prefix separator rest ≡ Some left = ap (without_prefix separator) (follows.there same) ∙ without_prefix_append separator left in
     cc
 
 -- a name is missing
 pub follows_no_name : (line header rest separator name left at : List ℕ) → Follows line header rest (separator ++ (name ++ left))
-    → behind separator rest ≡ Some at → behind name at ≡ None → line ≢ header
+    → without_prefix separator rest ≡ Some at → without_prefix name at ≡ None → line ≢ header
 follows_no_name line header rest separator name left at follows first none same =
-    let one : rest ≡ separator ++ at = behind_some separator rest at first in
+    let one : rest ≡ separator ++ at = without_prefix_some separator rest at first in
     let at_is : at ≡ name ++ left = append_cancel_left separator at (name ++ left) (sym one ∙ follows.there same) in
-    let found : behind name at ≡ Some left = ap (behind name) at_is ∙ behind_append name left in
+    let found : without_prefix name at ≡ Some left = ap (without_prefix name) at_is ∙ without_prefix_append name left in
     cc

@@ -1,5 +1,6 @@
 pub mod BlocksAt
 pub mod Widths
+pub mod Zeros
 pub mod Columns
 pub mod RowValues
 pub mod Components

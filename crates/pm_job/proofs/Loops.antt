@@ -14,44 +14,44 @@ use Rattle.pm_job.specs.Precedence.{Precedes, Leads, HasLoop, precedes, is_free}
 use Rattle.pm_job.specs.Precedence.Leads.{one_step, more_steps}
 use Rattle.pm_job.proofs.Widths.{both}
 
--- a place is one of these
+-- an index is one of these
 abbrev pub is_among : ℕ → List ℕ → Bool
-is_among place places = list_any (nat_eq place) places
+is_among index indices = list_any (nat_eq index) indices
 
-pub is_among_first : (place : ℕ) (places : List ℕ) → is_among place (place ∷ places) ≡ true
-is_among_first place places = or_left (nat_eq place place) (is_among place places) (nat_eq_equiv.refl place)
+pub is_among_first : (index : ℕ) (indices : List ℕ) → is_among index (index ∷ indices) ≡ true
+is_among_first index indices = or_left (nat_eq index index) (is_among index indices) (nat_eq_equiv.refl index)
 
-pub is_among_later : (place other : ℕ) (places : List ℕ) → is_among place places ≡ true → is_among place (other ∷ places) ≡ true
-is_among_later place other places is = or_right (nat_eq place other) (is_among place places) is
+pub is_among_later : (index other : ℕ) (indices : List ℕ) → is_among index indices ≡ true → is_among index (other ∷ indices) ≡ true
+is_among_later index other indices is = or_right (nat_eq index other) (is_among index indices) is
 
--- one of two lists has the place, or it is the first
-pub is_among_cases : (place other : ℕ) (places : List ℕ) → is_among place (other ∷ places) ≡ true → (place ≡ other) ⊎ (is_among place places ≡ true)
-is_among_cases place other places is =
-    ⊎_elim (λ here. inl (eqb-true place other here)) (λ there. inr there) (or_cases (nat_eq place other) (is_among place places) is)
+-- one of two lists has the index, or it is the first
+pub is_among_cases : (index other : ℕ) (indices : List ℕ) → is_among index (other ∷ indices) ≡ true → (index ≡ other) ⊎ (is_among index indices ≡ true)
+is_among_cases index other indices is =
+    ⊎_elim (λ here. inl (eqb-true index other here)) (λ there. inr there) (or_cases (nat_eq index other) (is_among index indices) is)
 
--- a test that some place passes finds one
-found : (test : ℕ → Bool) (places : List ℕ) → list_any test places ≡ true → (place : ℕ) × (is_among place places ≡ true) × (test place ≡ true)
+-- a test that some index passes finds one
+found : (test : ℕ → Bool) (indices : List ℕ) → list_any test indices ≡ true → (index : ℕ) × (is_among index indices ≡ true) × (test index ≡ true)
 found test [] is = absurd (cc)
-found test (place ∷ places) is = ⊎_elim
-    (λ here. (place, is_among_first place places, here))
-    (λ there. let rest = found test places there in (rest.0, is_among_later rest.0 place places rest.1, rest.2))
-    (or_cases (test place) (list_any test places) is)
+found test (index ∷ indices) is = ⊎_elim
+    (λ here. (index, is_among_first index indices, here))
+    (λ there. let rest = found test indices there in (rest.0, is_among_later rest.0 index indices rest.1, rest.2))
+    (or_cases (test index) (list_any test indices) is)
 
--- where no first place passes a test, none does
-none_before : (test : ℕ → Bool) (places : List ℕ) (place : ℕ) → length places ≤ position_or_len test places → is_among place places ≡ true → test place ≡ false
-none_before test [] place long is = absurd (cc)
-none_before test (first ∷ places) place long is = ⊎_elim
-    (λ passes. let short : position_or_len test (first ∷ places) ≡ 0 = rw passes refl in absurd (omega arith))
+-- where no first index passes a test, none does
+none_before : (test : ℕ → Bool) (indices : List ℕ) (index : ℕ) → length indices ≤ position_or_len test indices → is_among index indices ≡ true → test index ≡ false
+none_before test [] index long is = absurd (cc)
+none_before test (first ∷ indices) index long is = ⊎_elim
+    (λ passes. let short : position_or_len test (first ∷ indices) ≡ 0 = rw passes refl in absurd (omega arith))
     (λ fails.
-    let more : position_or_len test (first ∷ places) ≡ 1 + position_or_len test places = rw fails refl in ⊎_elim
+    let more : position_or_len test (first ∷ indices) ≡ 1 + position_or_len test indices = rw fails refl in ⊎_elim
     (λ here. subst (λ (p : ℕ). test p ≡ false) (sym here) fails)
-    (λ there. none_before test places place (omega arith) there)
-    (is_among_cases place first places is))
+    (λ there. none_before test indices index (omega arith) there)
+    (is_among_cases index first indices is))
     (cases_Bool (test first))
 
-none_passes : (test : ℕ → Bool) (places : List ℕ) (place : ℕ) → position test places ≡ None → is_among place places ≡ true → test place ≡ false
-none_passes test places place none is =
-    let long : length places ≤ position_or_len test places = grind (arith, nat_tests) in none_before test places place long is
+none_passes : (test : ℕ → Bool) (indices : List ℕ) (index : ℕ) → position test indices ≡ None → is_among index indices ≡ true → test index ≡ false
+none_passes test indices index none is =
+    let long : length indices ≤ position_or_len test indices = grind (arith, nat_tests) in none_before test indices index long is
 
 -- a test of what may be there
 pub some_of : {X : Type 0} (test : X → Bool) (found : Option X) → option_map_or test found false ≡ true → (x : X) × (found ≡ Some x) × (test x ≡ true)
@@ -75,47 +75,47 @@ Precedes-from_test blocks first second is =
       reads_it = hears.2;
     }
 
--- a place that is none of these differs from each
-apart_from : (place : ℕ) (places : List ℕ) → is_among place places ≡ false → AllByRecursion (λ other. nat_eq place other ≡ false) places
-apart_from place [] is = tt
-apart_from place (other ∷ places) is = let parts = or_parts (nat_eq place other) (is_among place places) is in (parts.0, apart_from place places parts.1)
+-- an index that is none of these differs from each
+apart_from : (index : ℕ) (indices : List ℕ) → is_among index indices ≡ false → AllByRecursion (λ other. nat_eq index other ≡ false) indices
+apart_from index [] is = tt
+apart_from index (other ∷ indices) is = let parts = or_parts (nat_eq index other) (is_among index indices) is in (parts.0, apart_from index indices parts.1)
 
--- Each of the places has one before it among them. The walk back from a place, which has come by the places of
+-- Each of the indices has one before it among them. The walk back from an index, which has come by the indices of
 -- `walked`, comes to one of these again, since they are no more than all.
-walk : (blocks : List Assignment) (places : List ℕ)
-    → ((second : ℕ) → is_among second places ≡ true → (first : ℕ) × (is_among first places ≡ true) × Precedes blocks first second)
-    → (steps : ℕ) (place : ℕ) (walked : List ℕ) → IsDistinct nat_eq (place ∷ walked)
-    → ((other : ℕ) → is_among other (place ∷ walked) ≡ true → is_among other places ≡ true)
-    → ((other : ℕ) → is_among other walked ≡ true → Leads blocks place other)
-    → length (place ∷ walked) + steps ≡ length places + 1 → HasLoop blocks
-walk blocks places each zero place walked distinct within leads count =
-    let few = length-le_from_is_member nat_eq_equiv (place ∷ walked) places distinct within in absurd (omega arith)
-walk blocks places each (suc steps) place walked distinct within leads count =
-    let next = each place (within place (is_among_first place walked)) in
-    let further : (other : ℕ) → is_among other (place ∷ walked) ≡ true → Leads blocks next.0 other = λ other is. ⊎_elim
-    (λ here. subst (λ (p : ℕ). Leads blocks next.0 p) (sym here) (one_step next.0 place next.2))
-    (λ there. more_steps next.0 place other next.2 (leads other there))
-    (is_among_cases other place walked is) in ⊎_elim
+walk : (blocks : List Assignment) (indices : List ℕ)
+    → ((second : ℕ) → is_among second indices ≡ true → (first : ℕ) × (is_among first indices ≡ true) × Precedes blocks first second)
+    → (steps : ℕ) (index : ℕ) (walked : List ℕ) → IsDistinct nat_eq (index ∷ walked)
+    → ((other : ℕ) → is_among other (index ∷ walked) ≡ true → is_among other indices ≡ true)
+    → ((other : ℕ) → is_among other walked ≡ true → Leads blocks index other)
+    → length (index ∷ walked) + steps ≡ length indices + 1 → HasLoop blocks
+walk blocks indices each zero index walked distinct within leads count =
+    let few = length-le_from_is_member nat_eq_equiv (index ∷ walked) indices distinct within in absurd (omega arith)
+walk blocks indices each (suc steps) index walked distinct within leads count =
+    let next = each index (within index (is_among_first index walked)) in
+    let further : (other : ℕ) → is_among other (index ∷ walked) ≡ true → Leads blocks next.0 other = λ other is. ⊎_elim
+    (λ here. subst (λ (p : ℕ). Leads blocks next.0 p) (sym here) (one_step next.0 index next.2))
+    (λ there. more_steps next.0 index other next.2 (leads other there))
+    (is_among_cases other index walked is) in ⊎_elim
     (λ met. (next.0, further next.0 met))
-    (λ new. walk blocks places each steps next.0 (place ∷ walked)
-    (IsDistinct-cons nat_eq next.0 (place ∷ walked) (apart_from next.0 (place ∷ walked) new) distinct)
+    (λ new. walk blocks indices each steps next.0 (index ∷ walked)
+    (IsDistinct-cons nat_eq next.0 (index ∷ walked) (apart_from next.0 (index ∷ walked) new) distinct)
     (λ other is. ⊎_elim
-    (λ here. subst (λ (p : ℕ). is_among p places ≡ true) (sym here) next.1)
+    (λ here. subst (λ (p : ℕ). is_among p indices ≡ true) (sym here) next.1)
     (λ there. within other there)
-    (is_among_cases other next.0 (place ∷ walked) is))
+    (is_among_cases other next.0 (index ∷ walked) is))
     further (omega arith))
-    (cases_Bool (is_among next.0 (place ∷ walked)))
+    (cases_Bool (is_among next.0 (index ∷ walked)))
 
--- where none of the places is free, there is a loop
-pub HasLoop-from_none_free : (blocks : List Assignment) (places : List ℕ) → 0 < length places → position (is_free blocks places) places ≡ None → HasLoop blocks
+-- where none of the indices is free, there is a loop
+pub HasLoop-from_none_free : (blocks : List Assignment) (indices : List ℕ) → 0 < length indices → position (is_free blocks indices) indices ≡ None → HasLoop blocks
 unfolding IsDistinct
 HasLoop-from_none_free blocks [] some none = absurd (omega arith)
-HasLoop-from_none_free blocks (place ∷ places) some none =
-    walk blocks (place ∷ places)
+HasLoop-from_none_free blocks (index ∷ indices) some none =
+    walk blocks (index ∷ indices)
     (λ second is.
-    let bound = none_passes (is_free blocks (place ∷ places)) (place ∷ places) second none is in
-    let first = found (λ other. precedes blocks other second) (place ∷ places) (not-false (list_any (λ other. precedes blocks other second) (place ∷ places)) bound) in
+    let bound = none_passes (is_free blocks (index ∷ indices)) (index ∷ indices) second none is in
+    let first = found (λ other. precedes blocks other second) (index ∷ indices) (not-false (list_any (λ other. precedes blocks other second) (index ∷ indices)) bound) in
     (first.0, first.1, Precedes-from_test blocks first.0 second first.2))
-    (length (place ∷ places)) place [] (IsDistinct-cons nat_eq place [] tt tt)
-    (λ other is. ⊎_elim (λ here. subst (λ (p : ℕ). is_among p (place ∷ places) ≡ true) (sym here) (is_among_first place places)) (λ there. absurd (cc)) (is_among_cases other place [] is))
+    (length (index ∷ indices)) index [] (IsDistinct-cons nat_eq index [] tt tt)
+    (λ other is. ⊎_elim (λ here. subst (λ (p : ℕ). is_among p (index ∷ indices) ≡ true) (sym here) (is_among_first index indices)) (λ there. absurd (cc)) (is_among_cases other index [] is))
     (λ other is. absurd (cc)) (omega arith)

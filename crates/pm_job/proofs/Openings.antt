@@ -150,6 +150,13 @@ ends_without_header component (Some text) now held gives =
       nothing None = tt
       nothing (Some bytes) = ap Some (sym (append-nil bytes))
 
+-- memory ran out before anything was printed
+pub ends_without_memory : (component : Component) (told held : Option (List ℕ)) → EndsRun component told held held finish.NoMemory
+ends_without_memory component None held = tt
+ends_without_memory component (Some text) None = ([], (simulated component (lines_of text)).output, refl, tt)
+ends_without_memory component (Some text) (Some bytes) =
+    ([], (simulated component (lines_of text)).output, refl, ap Some (sym (append-nil bytes)))
+
 -- what the first line of the input is hangs on the signals alone
 pub header-arranged : (component : Component) (order : List ℕ) (told now : Option (List ℕ)) (got : HeaderGot) → GivesHeader component told now got → GivesHeader (arranged component order) told now got
 header-arranged component order None now got gives = tt

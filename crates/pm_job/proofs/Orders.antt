@@ -14,32 +14,32 @@ use Rattle.pm_job.specs.declared.component.Operand.TheVariants as operand
 use Rattle.pm_job.specs.Form.{targets_differ}
 use Rattle.pm_job.specs.Laws.{HaveSameBlocks}
 use Rattle.pm_job.specs.Progress.{after_block, after_blocks}
-use Rattle.pm_job.specs.Reads.{is_signal, reads, is_ordered, AssignWithin}
+use Rattle.pm_job.specs.Reads.{operand_is, reads, is_ordered, AssignWithin}
 use Rattle.pm_job.specs.Settled.{IsSettled, value_at, seen_by, operand_value, expression_value}
 use Rattle.pm_job.proofs.Widths.{both}
 
 -- an expression's value hangs on the signals that it reads alone
-operand_value-agree : (f g : ℕ → Word) (a : Operand) → ((place : ℕ) → is_signal place a ≡ true → f place ≡ g place) → operand_value f a ≡ operand_value g a
-operand_value-agree f g (operand.Signal place) same = same place (eq-eqb place place refl)
+operand_value-agree : (f g : ℕ → Word) (a : Operand) → ((index : ℕ) → operand_is index a ≡ true → f index ≡ g index) → operand_value f a ≡ operand_value g a
+operand_value-agree f g (operand.Signal index) same = same index (eq-eqb index index refl)
 operand_value-agree f g (operand.Constant bits) same = refl
 
-pub expression_value-agree : (f g : ℕ → Word) (e : Expression) → ((place : ℕ) → reads place e ≡ true → f place ≡ g place) → expression_value f e ≡ expression_value g e
+pub expression_value-agree : (f g : ℕ → Word) (e : Expression) → ((index : ℕ) → reads index e ≡ true → f index ≡ g index) → expression_value f e ≡ expression_value g e
 expression_value-agree f g (expression.Just a) same = operand_value-agree f g a same
 expression_value-agree f g (expression.Both o a b) same =
     ap₂ (result_of o)
-    (operand_value-agree f g a (λ place here. same place (or_left (is_signal place a) (is_signal place b) here)))
-    (operand_value-agree f g b (λ place here. same place (or_right (is_signal place a) (is_signal place b) here)))
+    (operand_value-agree f g a (λ index here. same index (or_left (operand_is index a) (operand_is index b) here)))
+    (operand_value-agree f g b (λ index here. same index (or_right (operand_is index a) (operand_is index b) here)))
 
 -- what is read, no later block assigns
-unassigned_later : (blocks : List Assignment) (e : Expression) (place : ℕ) → list_all (λ later. not (reads later.target e)) blocks ≡ true → reads place e ≡ true
-    → All (λ later. later.target ≢ place) blocks
-unassigned_later [] e place none read k d within = absurd (omega arith)
-unassigned_later (later ∷ blocks) e place none read zero d within = λ (same : later.target ≡ place).
+unassigned_later : (blocks : List Assignment) (e : Expression) (index : ℕ) → list_all (λ later. not (reads later.target e)) blocks ≡ true → reads index e ≡ true
+    → All (λ later. later.target ≢ index) blocks
+unassigned_later [] e index none read k d within = absurd (omega arith)
+unassigned_later (later ∷ blocks) e index none read zero d within = λ (same : later.target ≡ index).
     let parts = both (not (reads later.target e)) (list_all (λ (other : Assignment). not (reads other.target e)) blocks) none in
     both_ways (reads later.target e) (not-true (reads later.target e) parts.0) (ap (λ (p : ℕ). reads p e) same ∙ read)
-unassigned_later (later ∷ blocks) e place none read (suc k) d within =
+unassigned_later (later ∷ blocks) e index none read (suc k) d within =
     let parts = both (not (reads later.target e)) (list_all (λ (other : Assignment). not (reads other.target e)) blocks) none in
-    unassigned_later blocks e place parts.1 read k d (omega (arith, within))
+    unassigned_later blocks e index parts.1 read k d (omega (arith, within))
 
 -- a target that is not found among blocks is none of theirs
 pub other_targets : (blocks : List Assignment) (target : ℕ) → not (list_any (λ other. other.target == target) blocks) ≡ true → All (λ other. other.target ≢ target) blocks
@@ -51,15 +51,15 @@ other_targets (block ∷ blocks) target none (suc k) d within =
     let parts = or_parts (block.target == target) (list_any (λ (other : Assignment). other.target == target) blocks) (not-true _ none) in
     other_targets blocks target (ap not parts.1) k d (omega (arith, within))
 
--- a place that neither the first block nor a later one assigns
-unassigned_both : (block : Assignment) (blocks : List Assignment) (place : ℕ) → place ≢ block.target → All (λ later. later.target ≢ place) blocks
-    → All (λ other. other.target ≢ place) (block ∷ blocks)
-unassigned_both block blocks place first rest zero d within = λ (same : block.target ≡ place). first (sym same)
-unassigned_both block blocks place first rest (suc k) d within = rest k d (omega (arith, within))
+-- an index that neither the first block nor a later one assigns
+unassigned_both : (block : Assignment) (blocks : List Assignment) (index : ℕ) → index ≢ block.target → All (λ later. later.target ≢ index) blocks
+    → All (λ other. other.target ≢ index) (block ∷ blocks)
+unassigned_both block blocks index first rest zero d within = λ (same : block.target ≡ index). first (sym same)
+unassigned_both block blocks index first rest (suc k) d within = rest k d (omega (arith, within))
 
 -- a block changes its target alone
-after_block-other : (block : Assignment) (start : List Word) (place : ℕ) → place ≢ block.target → value_at (after_block block start) place ≡ value_at start place
-after_block-other block start place other = get_or-set_other start block.target place (expression_value (value_at start) block.value) (record { width = 1; value = 0 }) other
+after_block-other : (block : Assignment) (start : List Word) (index : ℕ) → index ≢ block.target → value_at (after_block block start) index ≡ value_at start index
+after_block-other block start index other = get_or-set_other start block.target index (expression_value (value_at start) block.value) (record { width = 1; value = 0 }) other
 
 after_block-target : (block : Assignment) (start : List Word) → block.target < length start → value_at (after_block block start) block.target ≡ expression_value (value_at start) block.value
 after_block-target block start within = get_or-set_same start block.target (expression_value (value_at start) block.value) (record { width = 1; value = 0 }) within
@@ -68,33 +68,33 @@ length-after_block : (block : Assignment) (start : List Word) → length (after_
 length-after_block block start = length-set start block.target (expression_value (value_at start) block.value)
 
 -- what a block sees is the same after one with another target
-seen_by-after_block : (block later : Assignment) (start settled : List Word) → later.target ≢ block.target → (place : ℕ)
-    → seen_by later (after_block block start) settled place ≡ seen_by later start settled place
-seen_by-after_block block later start settled other place = pick (place == later.target) refl where
-  pick : (here : Bool) → (place == later.target) ≡ here
-      → (if here then value_at (after_block block start) place else value_at settled place) ≡ (if here then value_at start place else value_at settled place)
-  pick true is = after_block-other block start place (λ (same : place ≡ block.target). other (sym (eqb-true place later.target is) ∙ same))
+seen_by-after_block : (block later : Assignment) (start settled : List Word) → later.target ≢ block.target → (index : ℕ)
+    → seen_by later (after_block block start) settled index ≡ seen_by later start settled index
+seen_by-after_block block later start settled other index = pick (index == later.target) refl where
+  pick : (here : Bool) → (index == later.target) ≡ here
+      → (if here then value_at (after_block block start) index else value_at settled index) ≡ (if here then value_at start index else value_at settled index)
+  pick true is = after_block-other block start index (λ (same : index ≡ block.target). other (sym (eqb-true index later.target is) ∙ same))
   pick false is = refl
 
 -- the first block sees what it reads as it was at the start
 seen_by-first : (block : Assignment) (blocks : List Assignment) (start settled : List Word) → list_all (λ later. not (reads later.target block.value)) blocks ≡ true
-    → ((place : ℕ) → place ≢ block.target → All (λ later. later.target ≢ place) blocks → value_at settled place ≡ value_at start place)
-    → (place : ℕ) → reads place block.value ≡ true → seen_by block start settled place ≡ value_at start place
-seen_by-first block blocks start settled unread stays place read = pick (place == block.target) refl where
-  pick : (here : Bool) → (place == block.target) ≡ here → (if here then value_at start place else value_at settled place) ≡ value_at start place
+    → ((index : ℕ) → index ≢ block.target → All (λ later. later.target ≢ index) blocks → value_at settled index ≡ value_at start index)
+    → (index : ℕ) → reads index block.value ≡ true → seen_by block start settled index ≡ value_at start index
+seen_by-first block blocks start settled unread stays index read = pick (index == block.target) refl where
+  pick : (here : Bool) → (index == block.target) ≡ here → (if here then value_at start index else value_at settled index) ≡ value_at start index
   pick true is = refl
-  pick false is = stays place (eqb-false place block.target is) (unassigned_later blocks block.value place unread read)
+  pick false is = stays index (eqb-false index block.target is) (unassigned_later blocks block.value index unread read)
 
 -- values that solve the equations of the later blocks, after the first one ran, solve them all
 settled_from_later : (block : Assignment) (blocks : List Assignment) (start settled : List Word) → list_all (λ later. not (reads later.target block.value)) blocks ≡ true
     → All (λ other. other.target ≢ block.target) blocks → block.target < length start → IsSettled blocks (after_block block start) settled → IsSettled (block ∷ blocks) start settled
 settled_from_later block blocks start settled unread others within later = record {
   one_each = later.one_each ∙ length-after_block block start;
-  unassigned = λ place none. stays place (λ (same : place ≡ block.target). none 0 block (omega arith) (sym same)) (λ k d in_range. none (suc k) d (omega (arith, in_range)));
+  unassigned = λ index none. stays index (λ (same : index ≡ block.target). none 0 block (omega arith) (sym same)) (λ k d in_range. none (suc k) d (omega (arith, in_range)));
   assigned = each;
 } where
-  stays : (place : ℕ) → place ≢ block.target → All (λ other. other.target ≢ place) blocks → value_at settled place ≡ value_at start place
-  stays place other none = later.unassigned place none ∙ after_block-other block start place other
+  stays : (index : ℕ) → index ≢ block.target → All (λ other. other.target ≢ index) blocks → value_at settled index ≡ value_at start index
+  stays index other none = later.unassigned index none ∙ after_block-other block start index other
 
   each : All (λ b. value_at settled b.target ≡ expression_value (seen_by b start settled) b.value) (block ∷ blocks)
   each zero d in_range =
@@ -105,18 +105,18 @@ settled_from_later block blocks start settled unread others within later = recor
       let inside : k < length blocks = omega (arith, in_range) in
       later.assigned k d inside
       ∙ expression_value-agree (seen_by b (after_block block start) settled) (seen_by b start settled) b.value
-      (λ place read. seen_by-after_block block b start settled (others k d inside) place)
+      (λ index read. seen_by-after_block block b start settled (others k d inside) index)
 
 -- values that solve the equations of all blocks solve those of the later ones, after the first one ran
 later_from_settled : (block : Assignment) (blocks : List Assignment) (start settled : List Word) → list_all (λ later. not (reads later.target block.value)) blocks ≡ true
     → All (λ other. other.target ≢ block.target) blocks → block.target < length start → IsSettled (block ∷ blocks) start settled → IsSettled blocks (after_block block start) settled
 later_from_settled block blocks start settled unread others within all = record {
   one_each = all.one_each ∙ sym (length-after_block block start);
-  unassigned = λ place none. pick place none (place == block.target) refl;
+  unassigned = λ index none. pick index none (index == block.target) refl;
   assigned = each;
 } where
-  stays : (place : ℕ) → place ≢ block.target → All (λ other. other.target ≢ place) blocks → value_at settled place ≡ value_at start place
-  stays place other none = all.unassigned place (unassigned_both block blocks place other none)
+  stays : (index : ℕ) → index ≢ block.target → All (λ other. other.target ≢ index) blocks → value_at settled index ≡ value_at start index
+  stays index other none = all.unassigned index (unassigned_both block blocks index other none)
 
   first : value_at settled block.target ≡ value_at (after_block block start) block.target
   first =
@@ -124,18 +124,18 @@ later_from_settled block blocks start settled unread others within all = record 
       ∙ expression_value-agree (seen_by block start settled) (value_at start) block.value (seen_by-first block blocks start settled unread stays)
       ∙ sym (after_block-target block start within)
 
-  pick : (place : ℕ) → All (λ other. other.target ≢ place) blocks → (here : Bool) → (place == block.target) ≡ here → value_at settled place ≡ value_at (after_block block start) place
-  pick place none true is =
-      subst (λ (p : ℕ). value_at settled p ≡ value_at (after_block block start) p) (sym (eqb-true place block.target is)) first
-  pick place none false is =
-      let other = eqb-false place block.target is in stays place other none ∙ sym (after_block-other block start place other)
+  pick : (index : ℕ) → All (λ other. other.target ≢ index) blocks → (here : Bool) → (index == block.target) ≡ here → value_at settled index ≡ value_at (after_block block start) index
+  pick index none true is =
+      subst (λ (p : ℕ). value_at settled p ≡ value_at (after_block block start) p) (sym (eqb-true index block.target is)) first
+  pick index none false is =
+      let other = eqb-false index block.target is in stays index other none ∙ sym (after_block-other block start index other)
 
   each : All (λ b. value_at settled b.target ≡ expression_value (seen_by b (after_block block start) settled) b.value) blocks
   each k d in_range =
       let b = slice_index_or blocks k d in
       all.assigned (suc k) d (omega (arith, in_range))
       ∙ sym (expression_value-agree (seen_by b (after_block block start) settled) (seen_by b start settled) b.value
-      (λ place read. seen_by-after_block block b start settled (others k d in_range) place))
+      (λ index read. seen_by-after_block block b start settled (others k d in_range) index))
 
 -- the later blocks assign values that are there after the first one ran
 within_later : (block : Assignment) (blocks : List Assignment) (start : List Word) → AssignWithin (length start) (block ∷ blocks) → AssignWithin (length (after_block block start)) blocks
@@ -147,7 +147,7 @@ pub ordered_settles : (blocks : List Assignment) (start : List Word) → is_orde
     → IsSettled blocks start (after_blocks blocks start)
 ordered_settles [] start ordered differ within = record {
   one_each = refl;
-  unassigned = λ place none. refl;
+  unassigned = λ index none. refl;
   assigned = λ k d out. absurd (omega arith);
 }
 ordered_settles (block ∷ blocks) start ordered differ within =
@@ -160,7 +160,7 @@ ordered_settles (block ∷ blocks) start ordered differ within =
 pub settled_values : (blocks : List Assignment) (start settled : List Word) → is_ordered blocks ≡ true → targets_differ blocks ≡ true → AssignWithin (length start) blocks
     → IsSettled blocks start settled → settled ≡ after_blocks blocks start
 settled_values [] start settled ordered differ within all =
-    ext_get_or (record { width = 1; value = 0 }) settled start all.one_each (λ place in_range. all.unassigned place (λ k d out. absurd (omega arith)))
+    ext_get_or (record { width = 1; value = 0 }) settled start all.one_each (λ index in_range. all.unassigned index (λ k d out. absurd (omega arith)))
 settled_values (block ∷ blocks) start settled ordered differ within all =
     let order = both (list_all (λ (later : Assignment). not (reads later.target block.value)) blocks) (is_ordered blocks) ordered in
     let targets = both (not (list_any (λ (other : Assignment). other.target == block.target) blocks)) (targets_differ blocks) differ in
@@ -177,7 +177,7 @@ one_solution_ordered blocks start a b ordered differ within first second =
 pub settled_permuted : (blocks blocks' : List Assignment) (start settled : List Word) → HaveSameBlocks blocks blocks' → IsSettled blocks start settled → IsSettled blocks' start settled
 settled_permuted blocks blocks' start settled same all = record {
   one_each = all.one_each;
-  unassigned = λ place none. all.unassigned place (moved (λ (b : Assignment). b.target ≢ place) blocks' blocks same.0 none);
+  unassigned = λ index none. all.unassigned index (moved (λ (b : Assignment). b.target ≢ index) blocks' blocks same.0 none);
   assigned = moved (λ (b : Assignment). value_at settled b.target ≡ expression_value (seen_by b start settled) b.value) blocks blocks' same.1 all.assigned;
 } where
   moved : (P : Assignment → Type 0) (xs ys : List Assignment) → All (Contains xs) ys → All P xs → All P ys

@@ -17,7 +17,7 @@ use Rattle.pm_job.specs.declared.status.Status.TheVariants as status
 use Rattle.pm_job.specs.Answers.{Outcome, refused_at, SimulatesIn, SimulatesWith, Ending, Says, Shows, IsCutShort, IsMessageOf, Answers, whole_ending, fault_line, refusal_line}
 use Rattle.pm_job.specs.CommandLine.{Target}
 use Rattle.pm_job.specs.Endings.{EndsAs, EndsTarget, status_of, message_of}
-use Rattle.pm_job.specs.Form.{component_of, form_lines, behind_head}
+use Rattle.pm_job.specs.Form.{component_of, form_lines, after_head}
 use Rattle.pm_job.specs.Precedence.{HasLoop, IsArrangement}
 use Rattle.pm_job.specs.Progress.{IsRead, Ends, EndsRun, arranged, simulated}
 use Rattle.pm_job.proofs.Components.{is_read}
@@ -26,12 +26,12 @@ use Rattle.pm_job.proofs.Ranks.{ordered_has_no_loop}
 use Rattle.pm_job.proofs.Rearranged.{arranged_traces}
 
 -- a simulation with the blocks in an arrangement ended as one of the component
-pub ends_arranged : (component : Component) (places : List ℕ) (told old new : Option (List ℕ)) (answer : Finish) → IsRead component → IsArrangement component.blocks places
-    → EndsRun (arranged component places) told old new answer → EndsAs (Some component) told old new answer
-ends_arranged component places None old new answer read order ends = tt
-ends_arranged component places (Some input) old new answer read order ends = (
-  simulated (arranged component places) (lines_of input),
-  inr (ordered_has_no_loop component.blocks places order, arranged_traces component places (lines_of input) read order),
+pub ends_arranged : (component : Component) (indices : List ℕ) (told old new : Option (List ℕ)) (answer : Finish) → IsRead component → IsArrangement component.blocks indices
+    → EndsRun (arranged component indices) told old new answer → EndsAs (Some component) told old new answer
+ends_arranged component indices None old new answer read order ends = tt
+ends_arranged component indices (Some input) old new answer read order ends = (
+  simulated (arranged component indices) (lines_of input),
+  inr (ordered_has_no_loop component.blocks indices order, arranged_traces component indices (lines_of input) read order),
   ends,
 )
 
@@ -66,9 +66,9 @@ some_outcome class text input (Some component) is =
     let any = component_outcome component input (is_read class text component is) in
     (any.0, subst (λ (f : Option Component). SimulatesIn f input any.0) (sym is) any.1)
 
-grows_by_no_front : (held : Option (List ℕ)) (whole : List ℕ) → GrowsByFront held held whole
-grows_by_no_front None whole = ([], whole, refl, tt)
-grows_by_no_front (Some bytes) whole = ([], whole, refl, ap Some (sym (append-nil bytes)))
+grows_by_no_prefix : (held : Option (List ℕ)) (whole : List ℕ) → GrowsByFront held held whole
+grows_by_no_prefix None whole = ([], whole, refl, tt)
+grows_by_no_prefix (Some bytes) whole = ([], whole, refl, ap Some (sym (append-nil bytes)))
 
 pub ends_at_once : (class text : List ℕ) (told held : Option (List ℕ)) (answer : Finish) → (answer ≡ finish.ReadFault) ⊎ (answer ≡ finish.NoMemory)
     → EndsAs (component_of class text) told held held answer
@@ -78,15 +78,15 @@ ends_at_once class text (Some input) held answer cut =
       any.0,
       any.1,
       elim cut [
-        | inl is ↦ subst (λ (a : Finish). Ends any.0 held held a) (sym is) (grows_by_no_front held any.0.output)
-        | inr is ↦ subst (λ (a : Finish). Ends any.0 held held a) (sym is) (grows_by_no_front held any.0.output)
+        | inl is ↦ subst (λ (a : Finish). Ends any.0 held held a) (sym is) (grows_by_no_prefix held any.0.output)
+        | inr is ↦ subst (λ (a : Finish). Ends any.0 held held a) (sym is) (grows_by_no_prefix held any.0.output)
       ],
     )
 
 pub ends_read_at_once : (component : Component) (told held : Option (List ℕ)) → IsRead component → EndsAs (Some component) told held held finish.NoMemory
 ends_read_at_once component None held read = tt
 ends_read_at_once component (Some input) held read =
-    let any = component_outcome component input read in (any.0, any.1, grows_by_no_front held any.0.output)
+    let any = component_outcome component input read in (any.0, any.1, grows_by_no_prefix held any.0.output)
 
 -- some file may be there, whatever is told
 some_file : (told : Told) → (file : List ℕ) × MayHold told file
@@ -109,7 +109,7 @@ too_long class text long =
     rw is
 
 no_lines : (class : List ℕ) → component_of class [] ≡ None
-unfolding component_of form_lines behind_head
+unfolding component_of form_lines after_head
 no_lines class = refl
 
 -- a file over the limit may be there only where it spells no component
@@ -124,7 +124,7 @@ target_too_large target files (Some input) held passes = at (told_among files ta
 
 -- ---- the program's answer
 
--- a message was put, or a front of it where the writing failed
+-- a message was put, or a prefix of it where the writing failed
 pub says : (errors errors' : Option (List ℕ)) (faults faults' : ℕ) (message : List ℕ) (result : Put) → (result ≡ put.Failed → Rose faults faults') → Puts errors errors' message result
     → Says errors errors' faults faults' message
 says errors errors' faults faults' message put.All cause puts = inl puts
@@ -142,11 +142,11 @@ seen outcome finish.Done old new errors errors' faults faults' ends said =
 seen outcome (finish.Refused line) old new errors errors' faults faults' ends said =
     (record { status = status.Refused; output = outcome.output; message = refusal_line line }, inl (ap (whole_ending outcome.output) (sym ends.0)), record { status = refl; printed = ends.1; said = said })
 seen outcome finish.ReadFault old new errors errors' faults faults' ends said =
-    (record { status = status.ReadFault; output = ends.0; message = fault_line status.ReadFault }, inr (record { cut = tt; front = (ends.1, ends.2); line = refl }), record { status = refl; printed = ends.3; said = said })
+    (record { status = status.ReadFault; output = ends.0; message = fault_line status.ReadFault }, inr (record { cut = tt; prefix = (ends.1, ends.2); line = refl }), record { status = refl; printed = ends.3; said = said })
 seen outcome finish.WriteFault old new errors errors' faults faults' ends said =
-    (record { status = status.WriteFault; output = ends.0; message = fault_line status.WriteFault }, inr (record { cut = tt; front = (ends.1, ends.2); line = refl }), record { status = refl; printed = ends.3; said = said })
+    (record { status = status.WriteFault; output = ends.0; message = fault_line status.WriteFault }, inr (record { cut = tt; prefix = (ends.1, ends.2); line = refl }), record { status = refl; printed = ends.3; said = said })
 seen outcome finish.NoMemory old new errors errors' faults faults' ends said =
-    (record { status = status.NoMemory; output = ends.0; message = fault_line status.NoMemory }, inr (record { cut = tt; front = (ends.1, ends.2); line = refl }), record { status = refl; printed = ends.3; said = said })
+    (record { status = status.NoMemory; output = ends.0; message = fault_line status.NoMemory }, inr (record { cut = tt; prefix = (ends.1, ends.2); line = refl }), record { status = refl; printed = ends.3; said = said })
 
 -- what a simulation of a target did answers the words
 pub answers_target : (target : Target) (files : Option Files) (told old new errors errors' : Option (List ℕ)) (faults faults' : ℕ) (answer : Finish)

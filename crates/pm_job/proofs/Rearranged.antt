@@ -18,7 +18,7 @@ use Rattle.pm_job.specs.Answers.{Outcome, Simulates, rows_of}
 use Rattle.pm_job.specs.Form.{targets_differ}
 use Rattle.pm_job.specs.Input.{Vectors, row_in, rows_from, before_rows, vectors_of, is_short}
 use Rattle.pm_job.specs.Laws.{HaveSameBlocks}
-use Rattle.pm_job.specs.Precedence.{HasLoop, IsArrangement, blocks_at, places_of}
+use Rattle.pm_job.specs.Precedence.{HasLoop, IsArrangement, blocks_at, indices_of}
 use Rattle.pm_job.specs.Reads.{AssignWithin}
 use Rattle.pm_job.specs.Settled.{IsSettled}
 use Rattle.pm_job.specs.Sound.{assignment_fits, is_width, widths_of}
@@ -32,10 +32,10 @@ use Rattle.pm_job.proofs.Widths.{both}
 
 -- ---- the blocks
 
--- each place of an arrangement is one of the blocks'
-pub places_within : (count : ℕ) (places : List ℕ) → IsPermutation (places_of count) places → AreWithin count places
-places_within count places each_once = All-permutation (λ (place : ℕ). place < count) (places_of count) places each_once inside where
-  inside : AreWithin count (places_of count)
+-- each index of an arrangement is one of the blocks'
+pub indices_within : (count : ℕ) (indices : List ℕ) → IsPermutation (indices_of count) indices → AreWithin count indices
+indices_within count indices each_once = All-permutation (λ (index : ℕ). index < count) (indices_of count) indices each_once inside where
+  inside : AreWithin count (indices_of count)
   inside k d in_range =
       let below : k < count = omega (arith, in_range, length-range_with_len 0 count) in
       omega (arith, below, get_or-range_with_len 0 count k d below)
@@ -130,59 +130,59 @@ one_solution blocks start free differ within = elim (arrangement_or_loop blocks)
 -- ---- the component
 
 -- a component that was read can run with its blocks in an arrangement
-pub arranged_ready : (component : Component) (places : List ℕ) → IsRead component → IsArrangement component.blocks places → IsReady (arranged component places)
-arranged_ready component places read order =
-    let permuted = blocks_at-IsPermutation component.blocks places order in
+pub arranged_ready : (component : Component) (indices : List ℕ) → IsRead component → IsArrangement component.blocks indices → IsReady (arranged component indices)
+arranged_ready component indices read order =
+    let permuted = blocks_at-IsPermutation component.blocks indices order in
     let typed = both (list_all is_width (widths_of component.signals)) (list_all (assignment_fits (widths_of component.signals)) component.blocks) read.typed in
     record {
-      typed = ap₂ (λ (a b : Bool). a && b) typed.0 (all_permuted (assignment_fits (widths_of component.signals)) component.blocks (blocks_at component.blocks places) permuted typed.1);
+      typed = ap₂ (λ (a b : Bool). a && b) typed.0 (all_permuted (assignment_fits (widths_of component.signals)) component.blocks (blocks_at component.blocks indices) permuted typed.1);
       begins = read.begins;
-      differ = targets_permuted component.blocks (blocks_at component.blocks places) permuted read.differ;
+      differ = targets_permuted component.blocks (blocks_at component.blocks indices) permuted read.differ;
       ordered = order.ordered;
     }
 
 -- a trace is one whatever the order of the blocks
-trace_arranged : (component : Component) (places : List ℕ) (before : List Word) (rows cycles : List (List Word)) → HaveSameBlocks (blocks_at component.blocks places) component.blocks
-    → IsTrace (arranged component places) before rows cycles → IsTrace component before rows cycles
-trace_arranged component places before [] [] same trace = tt
-trace_arranged component places before [] (settled ∷ cycles) same trace = trace
-trace_arranged component places before (row ∷ rows) [] same trace = trace
-trace_arranged component places before (row ∷ rows) (settled ∷ cycles) same trace = (
-  settled_permuted (blocks_at component.blocks places) component.blocks (with_inputs component.signals before row) settled same trace.0,
-  trace_arranged component places settled rows cycles same trace.1,
+trace_arranged : (component : Component) (indices : List ℕ) (before : List Word) (rows cycles : List (List Word)) → HaveSameBlocks (blocks_at component.blocks indices) component.blocks
+    → IsTrace (arranged component indices) before rows cycles → IsTrace component before rows cycles
+trace_arranged component indices before [] [] same trace = tt
+trace_arranged component indices before [] (settled ∷ cycles) same trace = trace
+trace_arranged component indices before (row ∷ rows) [] same trace = trace
+trace_arranged component indices before (row ∷ rows) (settled ∷ cycles) same trace = (
+  settled_permuted (blocks_at component.blocks indices) component.blocks (with_inputs component.signals before row) settled same trace.0,
+  trace_arranged component indices settled rows cycles same trace.1,
 )
 
-rows_text-arranged : (component : Component) (places : List ℕ) (cycle : ℕ) (cycles : List (List Word)) → rows_text (arranged component places) cycle cycles ≡ rows_text component cycle cycles
-rows_text-arranged component places cycle [] = refl
-rows_text-arranged component places cycle (values ∷ cycles) = ap (λ (text : List ℕ). row_text component cycle values ++ text) (rows_text-arranged component places (cycle + 1) cycles)
+rows_text-arranged : (component : Component) (indices : List ℕ) (cycle : ℕ) (cycles : List (List Word)) → rows_text (arranged component indices) cycle cycles ≡ rows_text component cycle cycles
+rows_text-arranged component indices cycle [] = refl
+rows_text-arranged component indices cycle (values ∷ cycles) = ap (λ (text : List ℕ). row_text component cycle values ++ text) (rows_text-arranged component indices (cycle + 1) cycles)
 
-simulates_arranged : (component : Component) (places : List ℕ) (vectors : Option Vectors) (outcome : Outcome) → HaveSameBlocks (blocks_at component.blocks places) component.blocks
-    → Simulates (arranged component places) vectors outcome → Simulates component vectors outcome
-simulates_arranged component places None outcome same simulates = simulates
-simulates_arranged component places (Some vectors) outcome same simulates = (
+simulates_arranged : (component : Component) (indices : List ℕ) (vectors : Option Vectors) (outcome : Outcome) → HaveSameBlocks (blocks_at component.blocks indices) component.blocks
+    → Simulates (arranged component indices) vectors outcome → Simulates component vectors outcome
+simulates_arranged component indices None outcome same simulates = simulates
+simulates_arranged component indices (Some vectors) outcome same simulates = (
   simulates.0,
-  trace_arranged component places (initial_values component.signals) (rows_of component vectors) simulates.0 same simulates.1,
-  simulates.2 ∙ ap (λ (text : List ℕ). let o : Outcome = record { output = head_text component ++ text; refused = vectors.refused } in o) (rows_text-arranged component places 0 simulates.0),
+  trace_arranged component indices (initial_values component.signals) (rows_of component vectors) simulates.0 same simulates.1,
+  simulates.2 ∙ ap (λ (text : List ℕ). let o : Outcome = record { output = head_text component ++ text; refused = vectors.refused } in o) (rows_text-arranged component indices 0 simulates.0),
 )
 
-rows_from-arranged : (component : Component) (places : List ℕ) (count : ℕ) (lines : List Line) → rows_from (arranged component places) count lines ≡ rows_from component count lines
-rows_from-arranged component places count [] = refl
-rows_from-arranged component places count (line ∷ lines) =
+rows_from-arranged : (component : Component) (indices : List ℕ) (count : ℕ) (lines : List Line) → rows_from (arranged component indices) count lines ≡ rows_from component count lines
+rows_from-arranged component indices count [] = refl
+rows_from-arranged component indices count (line ∷ lines) =
     ap (λ (rest : Vectors). elim (row_in component count line) as (λ _. Vectors) [ None ↦ record { rows = []; refused = Some (count + 2) } | Some row ↦ before_rows row rest ])
-    (rows_from-arranged component places (count + 1) lines)
+    (rows_from-arranged component indices (count + 1) lines)
 
-vectors_of-arranged : (component : Component) (places : List ℕ) (lines : List Line) → vectors_of (arranged component places) lines ≡ vectors_of component lines
-vectors_of-arranged component places [] =
-    ap (λ (names : List ℕ). if bytes_eq [] names then Some (let none : Vectors = record { rows = []; refused = None } in none) else None) (header_of-arranged component places)
-vectors_of-arranged component places (line ∷ lines) =
+vectors_of-arranged : (component : Component) (indices : List ℕ) (lines : List Line) → vectors_of (arranged component indices) lines ≡ vectors_of component lines
+vectors_of-arranged component indices [] =
+    ap (λ (names : List ℕ). if bytes_eq [] names then Some (let none : Vectors = record { rows = []; refused = None } in none) else None) (header_of-arranged component indices)
+vectors_of-arranged component indices (line ∷ lines) =
     ap₂ (λ (names : List ℕ) (vectors : Vectors). if is_short line && bytes_eq (content line) names then Some vectors else None)
-    (header_of-arranged component places) (rows_from-arranged component places 0 lines)
+    (header_of-arranged component indices) (rows_from-arranged component indices 0 lines)
 
 -- what a run with the blocks in an arrangement prints is what the component's vectors make it print
-pub arranged_traces : (component : Component) (places : List ℕ) (lines : List Line) → IsRead component → IsArrangement component.blocks places
-    → Simulates component (vectors_of component lines) (simulated (arranged component places) lines)
-arranged_traces component places lines read order =
-    simulates_arranged component places (vectors_of component lines) (simulated (arranged component places) lines)
-    (same_blocks component.blocks (blocks_at component.blocks places) (blocks_at-IsPermutation component.blocks places order))
-    (subst (λ (vectors : Option Vectors). Simulates (arranged component places) vectors (simulated (arranged component places) lines)) (vectors_of-arranged component places lines)
-    (simulated_traces (arranged component places) lines (arranged_ready component places read order)))
+pub arranged_traces : (component : Component) (indices : List ℕ) (lines : List Line) → IsRead component → IsArrangement component.blocks indices
+    → Simulates component (vectors_of component lines) (simulated (arranged component indices) lines)
+arranged_traces component indices lines read order =
+    simulates_arranged component indices (vectors_of component lines) (simulated (arranged component indices) lines)
+    (same_blocks component.blocks (blocks_at component.blocks indices) (blocks_at-IsPermutation component.blocks indices order))
+    (subst (λ (vectors : Option Vectors). Simulates (arranged component indices) vectors (simulated (arranged component indices) lines)) (vectors_of-arranged component indices lines)
+    (simulated_traces (arranged component indices) lines (arranged_ready component indices read order)))

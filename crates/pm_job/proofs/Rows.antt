@@ -12,13 +12,13 @@ use Rattle.pm_job.specs.Words.{words_of, is_decimal, number_below}
 use Rattle.pm_job.specs.Vectors.{value_of, values_of, row_of, entries_of}
 use Rattle.pm_job.specs.Values.{value_widths}
 
--- the words behind a blank, and none where there is no blank
+-- the words after a blank, and none where there is no blank
 abbrev pub words_left : Option (Bor (List ℕ)) → List (List ℕ)
 words_left rest = option_map_or (λ text. words_of text.now) rest []
 
--- the first places of a row are filled, and the words that are left give the others
+-- the first indices of a row are filled, and the words that are left give the others
 abbrev pub fill_from : List ℕ → List Word → ℕ → List (List ℕ) → Option (List Word)
-fill_from widths row place words = option_map (λ values. take place row ++ values) (values_of (drop place widths) words)
+fill_from widths row index words = option_map (λ values. take index row ++ values) (values_of (drop index widths) words)
 
 map_and_then : {A : Type 0} (f g : List A → List A) (value : A) (o : Option (List A)) → ((xs : List A) → f (value ∷ xs) ≡ g xs)
     → option_map f (option_map (λ xs. value ∷ xs) o) ≡ option_map g o
@@ -29,59 +29,59 @@ map_same : {A : Type 0} (o : Option (List A)) → option_map (λ xs. [] ++ xs) o
 map_same None = refl
 map_same (Some xs) = refl
 
--- a word that gives no value at this place
-pub fill_stops : (widths : List ℕ) (row : List Word) (place : ℕ) (d : ℕ) (word : List ℕ) (words : List (List ℕ)) → place < length widths
-    → value_of (get_or widths place d) word ≡ None → fill_from widths row place (word ∷ words) ≡ None
+-- a word that gives no value at this index
+pub fill_stops : (widths : List ℕ) (row : List Word) (index : ℕ) (d : ℕ) (word : List ℕ) (words : List (List ℕ)) → index < length widths
+    → value_of (get_or widths index d) word ≡ None → fill_from widths row index (word ∷ words) ≡ None
 unfolding values_of
-fill_stops widths row place d word words inside none = rw (drop_more widths place d inside, none)
+fill_stops widths row index d word words inside none = rw (drop_more widths index d inside, none)
 
--- no word for this place
-pub fill_ends : (widths : List ℕ) (row : List Word) (place : ℕ) (d : ℕ) → place < length widths → fill_from widths row place [] ≡ None
+-- no word for this index
+pub fill_ends : (widths : List ℕ) (row : List Word) (index : ℕ) (d : ℕ) → index < length widths → fill_from widths row index [] ≡ None
 unfolding values_of
-fill_ends widths row place d inside = rw (drop_more widths place d inside)
+fill_ends widths row index d inside = rw (drop_more widths index d inside)
 
--- a word that gives the value of this place
-pub fill_more : (widths : List ℕ) (row : List Word) (place : ℕ) (d : ℕ) (word : List ℕ) (words : List (List ℕ)) (value : Word)
-    → place < length widths → place < length row → value_of (get_or widths place d) word ≡ Some value
-    → fill_from widths row place (word ∷ words) ≡ fill_from widths (set row place value) (place + 1) words
+-- a word that gives the value of this index
+pub fill_more : (widths : List ℕ) (row : List Word) (index : ℕ) (d : ℕ) (word : List ℕ) (words : List (List ℕ)) (value : Word)
+    → index < length widths → index < length row → value_of (get_or widths index d) word ≡ Some value
+    → fill_from widths row index (word ∷ words) ≡ fill_from widths (set row index value) (index + 1) words
 unfolding values_of
-fill_more widths row place d word words value inside within good =
-    rw (drop_more widths place d inside, good, take_more_set row place value within)
-    (map_and_then _ _ value _ (λ values. sym (append_assoc (take place row) (value ∷ []) values)))
+fill_more widths row index d word words value inside within good =
+    rw (drop_more widths index d inside, good, take_more_set row index value within)
+    (map_and_then _ _ value _ (λ values. sym (append_assoc (take index row) (value ∷ []) values)))
 
--- each place is filled
-pub fill_done : (widths : List ℕ) (row : List Word) (place : ℕ) → length row ≡ place → value_widths row ≡ widths → fill_from widths row place [] ≡ Some row
+-- each index is filled
+pub fill_done : (widths : List ℕ) (row : List Word) (index : ℕ) → length row ≡ index → value_widths row ≡ widths → fill_from widths row index [] ≡ Some row
 unfolding values_of
-fill_done widths row place all same =
-    let end : length widths ≡ place = ap length (sym same) ∙ length-map row _ ∙ all in
-    rw (drop_all place widths (omega arith), take_all place row (omega arith)) (ap Some (append-nil row))
+fill_done widths row index all same =
+    let end : length widths ≡ index = ap length (sym same) ∙ length-map row _ ∙ all in
+    rw (drop_all index widths (omega arith), take_all index row (omega arith)) (ap Some (append-nil row))
 
--- words are left behind the last place
-pub fill_over : (widths : List ℕ) (row : List Word) (place : ℕ) (word : List ℕ) (words : List (List ℕ)) → length row ≡ place → value_widths row ≡ widths
-    → fill_from widths row place (word ∷ words) ≡ None
+-- words are left after the last index
+pub fill_over : (widths : List ℕ) (row : List Word) (index : ℕ) (word : List ℕ) (words : List (List ℕ)) → length row ≡ index → value_widths row ≡ widths
+    → fill_from widths row index (word ∷ words) ≡ None
 unfolding values_of
-fill_over widths row place word words all same =
-    let end : length widths ≡ place = ap length (sym same) ∙ length-map row _ ∙ all in
-    rw (drop_all place widths (omega arith)) refl
+fill_over widths row index word words all same =
+    let end : length widths ≡ index = ap length (sym same) ∙ length-map row _ ∙ all in
+    rw (drop_all index widths (omega arith)) refl
 
--- a value of a place's width leaves the widths as they are
-pub widths_set : (row : List Word) (place : ℕ) (value d : Word) → place < length row → value.width ≡ (get_or row place d).width
-    → value_widths (set row place value) ≡ value_widths row
-widths_set row place value d inside same =
-    map-set (λ (w : Word). w.width) row place value
-    ∙ ap (set (value_widths row) place) (same ∙ sym (get_or-map (λ (w : Word). w.width) row place d 0 inside))
-    ∙ set-get_or (value_widths row) place 0
+-- a value of an index's width leaves the widths as they are
+pub widths_set : (row : List Word) (index : ℕ) (value d : Word) → index < length row → value.width ≡ (get_or row index d).width
+    → value_widths (set row index value) ≡ value_widths row
+widths_set row index value d inside same =
+    map-set (λ (w : Word). w.width) row index value
+    ∙ ap (set (value_widths row) index) (same ∙ sym (get_or-map (λ (w : Word). w.width) row index d 0 inside))
+    ∙ set-get_or (value_widths row) index 0
 
--- no place is filled yet
+-- no index is filled yet
 pub fill_start : (widths : List ℕ) (row : List Word) (line : List ℕ) (words : List (List ℕ)) → words ≡ entries_of line → row_of widths line ≡ fill_from widths row 0 words
 unfolding row_of
 fill_start widths row line words same = rw same (sym (map_same (values_of widths (entries_of line))))
 
--- the width of a place
-pub width_at : (widths : List ℕ) (row : List Word) (place : ℕ) (value : Word) → place < length row → value ≡ get_or row place value → value_widths row ≡ widths
-    → get_or widths place 0 ≡ value.width
-width_at widths row place value inside is same =
-    ap (λ ws. get_or ws place 0) (sym same) ∙ get_or-map (λ (w : Word). w.width) row place value 0 inside ∙ ap (λ (w : Word). w.width) (sym is)
+-- the width of an index
+pub width_at : (widths : List ℕ) (row : List Word) (index : ℕ) (value : Word) → index < length row → value ≡ get_or row index value → value_widths row ≡ widths
+    → get_or widths index 0 ≡ value.width
+width_at widths row index value inside is same =
+    ap (λ ws. get_or ws index 0) (sym same) ∙ get_or-map (λ (w : Word). w.width) row index value 0 inside ∙ ap (λ (w : Word). w.width) (sym is)
 
 of_width : (width : ℕ) (number : Option ℕ) (value : Word) → option_map (λ n. record { width = width; value = n }) number ≡ Some value → value.width ≡ width
 of_width width None value is = cc

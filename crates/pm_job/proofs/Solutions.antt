@@ -37,10 +37,10 @@ length-after_blocks [] values = refl
 length-after_blocks (block ∷ blocks) values = length-after_blocks blocks (after_block block values) ∙ length-set values block.target _
 
 -- a target is one of the signals
-target_within : (widths : List ℕ) (place : ℕ) (test : ℕ → Bool) → option_map_or test (slice_get widths place) false ≡ true → place < length widths
-target_within [] place test is = absurd (cc)
+target_within : (widths : List ℕ) (index : ℕ) (test : ℕ → Bool) → option_map_or test (slice_get widths index) false ≡ true → index < length widths
+target_within [] index test is = absurd (cc)
 target_within (width ∷ widths) zero test is = omega arith
-target_within (width ∷ widths) (suc place) test is = let rest = target_within widths place test is in omega (arith, rest)
+target_within (width ∷ widths) (suc index) test is = let rest = target_within widths index test is in omega (arith, rest)
 
 targets_within : (widths : List ℕ) (count : ℕ) (blocks : List Assignment) → length widths ≡ count → list_all (assignment_fits widths) blocks ≡ true → AssignWithin count blocks
 targets_within widths count [] same all k d in_range = absurd (omega arith)
@@ -97,7 +97,7 @@ follow_traces component values count (line ∷ lines) ready is =
                 ∙ ap (λ (n : ℕ). let o : Outcome = record { output = row_text component (count + 2) settled ++ rows_text component n rest.0; refused = (rows_from component (count + 1) lines).refused } in o) shift,
           )
 
--- a run behind its header prints the trace of the cycles of reset and of the rows
+-- a run after its header prints the trace of the cycles of reset and of the rows
 opened_traces : (component : Component) (lines : List Line) → IsReady component → Simulates component (Some (rows_from component 0 lines)) (opened component lines)
 opened_traces component lines ready =
     let start : length (initial_values component.signals) ≡ length component.signals = length-map component.signals _ in

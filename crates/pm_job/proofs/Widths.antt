@@ -23,17 +23,17 @@ pub both : (a b : Bool) → (a && b) ≡ true → (a ≡ true) × (b ≡ true)
 both true b holds = (refl, holds)
 both false b holds = absurd (cc)
 
--- a place with a width is that of a value with the width
-pub has_width_here : (values : List Word) (width place : ℕ) → has_width (value_widths values) width place ≡ true
-    → (place < length values) × ((value_at values place).width ≡ width)
-has_width_here [] width place has = absurd (cc)
+-- an index with a width is that of a value with the width
+pub has_width_here : (values : List Word) (width index : ℕ) → has_width (value_widths values) width index ≡ true
+    → (index < length values) × ((value_at values index).width ≡ width)
+has_width_here [] width index has = absurd (cc)
 has_width_here (value ∷ values) width zero has = (omega arith, eqb-true value.width width has)
-has_width_here (value ∷ values) width (suc place) has = let rest = has_width_here values width place has in (omega (arith, rest.0), rest.1)
+has_width_here (value ∷ values) width (suc index) has = let rest = has_width_here values width index has in (omega (arith, rest.0), rest.1)
 
 -- an operand that fits has a value, of that width
 pub operand_fits_here : (values : List Word) (width : ℕ) (a : Operand) → operand_fits (value_widths values) width a ≡ true
     → IsWithin (length values) a × ((operand_value (value_at values) a).width ≡ width)
-operand_fits_here values width (operand.Signal place) fits = has_width_here values width place fits
+operand_fits_here values width (operand.Signal index) fits = has_width_here values width index fits
 operand_fits_here values width (operand.Constant bits) fits = (tt, eqb-true bits.width width fits)
 
 -- such an operator's result has the left operand's width
@@ -64,12 +64,12 @@ expression_fits_here values width (expression.Both o a b) fits =
     let right = operand_fits_here values width b sides.1 in
     ((left.0, right.0, left.1 ∙ sym right.1), result_of-width o _ _ parts.0 ∙ left.1)
 
--- what `fits` says of a place that has a width
-fits_at : (values : List Word) (place : ℕ) (test : ℕ → Bool) → option_map_or test (slice_get (value_widths values) place) false ≡ true
-    → (place < length values) × (test (value_at values place).width ≡ true)
-fits_at [] place test fits = absurd (cc)
+-- what `fits` says of an index that has a width
+fits_at : (values : List Word) (index : ℕ) (test : ℕ → Bool) → option_map_or test (slice_get (value_widths values) index) false ≡ true
+    → (index < length values) × (test (value_at values index).width ≡ true)
+fits_at [] index test fits = absurd (cc)
 fits_at (value ∷ values) zero test fits = (omega arith, fits)
-fits_at (value ∷ values) (suc place) test fits = let rest = fits_at values place test fits in (omega (arith, rest.0), rest.1)
+fits_at (value ∷ values) (suc index) test fits = let rest = fits_at values index test fits in (omega (arith, rest.0), rest.1)
 
 -- an assignment that fits has a target, and can be computed in its width
 pub assignment_fits_here : (values : List Word) (block : Assignment) → assignment_fits (value_widths values) block ≡ true

@@ -10,11 +10,11 @@ use Rattle.std.proofs.lemmas.Fmt.{decimal_is_IsNumeral, decimal-digits_value, de
 use Rattle.std.proofs.lemmas.List.{length-append, take-append-drop, take_at, drop_at}
 use Rattle.std.proofs.lemmas.Slice.Eq.{bytes_eq-Decides}
 use Rattle.std.proofs.lemmas.Str.Parse.{IsNumeralModel}
-use Rattle.pm_job.specs.Words.{blank, is_blank, behind, without_ending, is_decimal, number_below}
+use Rattle.pm_job.specs.Words.{blank, is_blank, without_prefix, without_ending, is_decimal, number_below}
 use Rattle.pm_syn.specs.Bytes.{begins_name, continues_name}
 use Rattle.pm_syn.specs.Names.{is_proper_name, is_spelled_as_name}
 use Rattle.pm_job.specs.Spelling.{cut, is_name, is_new_name, numeral_below}
-use Rattle.pm_job.proofs.Headers.{behind_some}
+use Rattle.pm_job.proofs.Headers.{without_prefix_some}
 
 -- ---- steps
 
@@ -49,24 +49,24 @@ none_there (Some x) never = absurd (never x refl)
 
 -- ---- endings
 
-without_cases : (same : Bool) (back ending front text : List ℕ) → (same ≡ true → back ≡ ending) → front ++ back ≡ text
-    → (found : List ℕ) → (if same then Some front else None) ≡ Some found → text ≡ found ++ ending
-without_cases true back ending front text says whole found is =
-    let found_is : front ≡ found = cc in
-    sym whole ∙ ap (λ t. front ++ t) (says refl) ∙ ap (λ t. t ++ ending) found_is
-without_cases false back ending front text says whole found is = absurd (cc)
+without_cases : (same : Bool) (back ending start text : List ℕ) → (same ≡ true → back ≡ ending) → start ++ back ≡ text
+    → (found : List ℕ) → (if same then Some start else None) ≡ Some found → text ≡ found ++ ending
+without_cases true back ending start text says whole found is =
+    let found_is : start ≡ found = cc in
+    sym whole ∙ ap (λ t. start ++ t) (says refl) ∙ ap (λ t. t ++ ending) found_is
+without_cases false back ending start text says whole found is = absurd (cc)
 
--- a text with an ending is what stands in front of it and the ending
+-- a text with an ending is what stands before it and the ending
 pub without_ending_some : (ending text found : List ℕ) → without_ending ending text ≡ Some found → text ≡ found ++ ending
 without_ending_some ending text found is =
     let at = length text - length ending in
     without_cases _ (drop at text) ending (take at text) text (bytes_eq-Decides (drop at text) ending).0 (take-append-drop at text) found is
 
 -- a text that ends with an ending has it
-pub without_ending-append : (front ending : List ℕ) → without_ending ending (front ++ ending) ≡ Some front
-without_ending-append front ending =
-    let at : length (front ++ ending) - length ending ≡ length front = omega (arith, length-append front ending) in
-    rw (at, drop_at front ending (length front) refl, take_at front ending (length front) refl, (bytes_eq-Decides ending ending).1 refl) refl
+pub without_ending-append : (start ending : List ℕ) → without_ending ending (start ++ ending) ≡ Some start
+without_ending-append start ending =
+    let at : length (start ++ ending) - length ending ≡ length start = omega (arith, length-append start ending) in
+    rw (at, drop_at start ending (length start) refl, take_at start ending (length start) refl, (bytes_eq-Decides ending ending).1 refl) refl
 
 -- ---- cuts
 
@@ -85,17 +85,17 @@ cut_cases false byte text (Some more) parts says rest is =
     let same : (byte ∷ more.0, more.1) ≡ parts = cc in
     subst (λ (p : List ℕ × List ℕ). byte ∷ text ≡ p.0 ++ blank ∷ p.1) same (ap (λ (t : List ℕ). byte ∷ t) (rest more refl))
 
--- a text that is cut is what stands in front of a blank, the blank, and what stands behind it
+-- a text that is cut is what stands before a blank, the blank, and what stands after it
 pub cut_some : (text : List ℕ) (parts : List ℕ × List ℕ) → cut text ≡ Some parts → text ≡ parts.0 ++ blank ∷ parts.1
 unfolding cut
 cut_some [] parts is = absurd (cc)
 cut_some (byte ∷ text) parts is = cut_cases (is_blank byte) byte text (cut text) parts (eqb-true byte blank) (cut_some text) is
 
 -- a text is cut at its first blank
-pub cut-append : (front rest : List ℕ) → HasNoBlank front → cut (front ++ blank ∷ rest) ≡ Some (front, rest)
+pub cut-append : (start rest : List ℕ) → HasNoBlank start → cut (start ++ blank ∷ rest) ≡ Some (start, rest)
 unfolding cut
 cut-append [] rest none = refl
-cut-append (byte ∷ front) rest none = rw (none.0, cut-append front rest none.1) refl
+cut-append (byte ∷ start) rest none = rw (none.0, cut-append start rest none.1) refl
 
 -- a text without a blank is not cut
 pub cut-word : (word : List ℕ) → HasNoBlank word → cut word ≡ None
@@ -198,10 +198,10 @@ decimal_has_no_blank number low =
     no_blanks (λ byte. is_digit byte 10) refl (decimal number) (digits_pass (decimal number) (decimal_is_IsNumeral number low).0.1)
 
 -- what is written for a number begins with no `s.`
-pub behind_dot-decimal : (number : ℕ) → number < 2 ^ 64 → behind (115 ∷ 46 ∷ []) (decimal number) ≡ None
-behind_dot-decimal number low =
-    none_there (behind (115 ∷ 46 ∷ []) (decimal number)) (λ rest is.
-    let same : decimal number ≡ 115 ∷ 46 ∷ rest = behind_some (115 ∷ 46 ∷ []) (decimal number) rest is in
+pub without_prefix_dot-decimal : (number : ℕ) → number < 2 ^ 64 → without_prefix (115 ∷ 46 ∷ []) (decimal number) ≡ None
+without_prefix_dot-decimal number low =
+    none_there (without_prefix (115 ∷ 46 ∷ []) (decimal number)) (λ rest is.
+    let same : decimal number ≡ 115 ∷ 46 ∷ rest = without_prefix_some (115 ∷ 46 ∷ []) (decimal number) rest is in
     let digits : AllDigits 10 (115 ∷ 46 ∷ rest) = subst (AllDigits 10) same (decimal_is_IsNumeral number low).0.1 in
     let first : digit_value 115 < 10 = digits.0 in
     omega arith)

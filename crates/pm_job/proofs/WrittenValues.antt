@@ -16,80 +16,80 @@ use Rattle.pm_job.specs.declared.component.Expression.{Expression}
 use Rattle.pm_job.specs.declared.component.Expression.TheVariants as expression
 use Rattle.pm_job.specs.declared.component.Operand.{Operand}
 use Rattle.pm_job.specs.declared.component.Operand.TheVariants as operand
-use Rattle.pm_job.specs.Words.{blank, behind}
+use Rattle.pm_job.specs.Words.{blank, without_prefix}
 use Rattle.pm_job.specs.Sound.{is_width}
 use Rattle.pm_job.specs.Spelling.{◌and_then◌, cut, numeral_below, value_where_it_fits, operator_of}
-use Rattle.pm_job.specs.Form.{place_from, place_of, operand_of, both_of, double_of, expression_of, signals_differ}
+use Rattle.pm_job.specs.Form.{index_from, index_of, operand_of, both_of, double_of, expression_of, signals_differ}
 use Rattle.pm_job.specs.WrittenForm.{IsSign, IsTerm, ReadsSignal, IsValue}
 use Rattle.pm_job.specs.WrittenForm.IsSign.{sum, conjunction, disjunction, exclusive}
 use Rattle.pm_job.specs.WrittenForm.IsTerm.{signal as signal_term, number as number_term}
 use Rattle.pm_job.specs.WrittenForm.ReadsSignal.{signal as reads_signal}
 use Rattle.pm_job.specs.WrittenForm.IsValue.{term as one_term, first_signal, second_signal}
-use Rattle.pm_job.proofs.Headers.{behind_some}
-use Rattle.pm_job.proofs.WrittenParts.{HasNoBlank, option_map_some, where_true, where_same, cut_some, cut-append, cut-word, numeral_below_some, numeral_below-decimal, decimal_has_no_blank, behind_dot-decimal}
+use Rattle.pm_job.proofs.Headers.{without_prefix_some}
+use Rattle.pm_job.proofs.WrittenParts.{HasNoBlank, option_map_some, where_true, where_same, cut_some, cut-append, cut-word, numeral_below_some, numeral_below-decimal, decimal_has_no_blank, without_prefix_dot-decimal}
 
--- ---- places
+-- ---- indices
 
--- a signal of this name stands at a place
-pub record IsAt (signals : List Signal) (name : List ℕ) (place : ℕ) : Type 0 where
+-- a signal of this name stands at an index
+pub record IsAt (signals : List Signal) (name : List ℕ) (index : ℕ) : Type 0 where
   pub read : Signal
-  pub there : slice_get signals place ≡ Some read
+  pub there : slice_get signals index ≡ Some read
   pub named : name ≡ read.name
 
-place_from_some : (first : ℕ) (signals : List Signal) (name : List ℕ) (place : ℕ) → place_from first signals name ≡ Some place
-    → (steps : ℕ) × (place ≡ first + steps) × IsAt signals name steps
-place_from_some first [] name place is = absurd (cc)
-place_from_some first (signal ∷ signals) name place is =
-    where_same signal.name name first place (place_from (first + 1) signals name) is
+index_from_some : (first : ℕ) (signals : List Signal) (name : List ℕ) (index : ℕ) → index_from first signals name ≡ Some index
+    → (steps : ℕ) × (index ≡ first + steps) × IsAt signals name steps
+index_from_some first [] name index is = absurd (cc)
+index_from_some first (signal ∷ signals) name index is =
+    where_same signal.name name first index (index_from (first + 1) signals name) is
     (λ here same. (0, omega arith, record { read = signal; there = refl; named = sym here }))
     (λ later.
-    let rest = place_from_some (first + 1) signals name place later in
+    let rest = index_from_some (first + 1) signals name index later in
     (suc rest.0, omega (arith, rest.1), record { read = rest.2.read; there = rest.2.there; named = rest.2.named }))
 
--- a place that is found is that of a signal of the name
-pub place_of_some : (signals : List Signal) (name : List ℕ) (place : ℕ) → place_of signals name ≡ Some place → IsAt signals name place
-unfolding place_of
-place_of_some signals name place is =
-    let found = place_from_some 0 signals name place is in
-    let same : found.0 ≡ place = omega (arith, found.1) in
+-- an index that is found is that of a signal of the name
+pub index_of_some : (signals : List Signal) (name : List ℕ) (index : ℕ) → index_of signals name ≡ Some index → IsAt signals name index
+unfolding index_of
+index_of_some signals name index is =
+    let found = index_from_some 0 signals name index is in
+    let same : found.0 ≡ index = omega (arith, found.1) in
     subst (IsAt signals name) same found.2
 
-fails_at : (test : Signal → Bool) (signals : List Signal) (place : ℕ) (read : Signal) → list_any test signals ≡ false
-    → slice_get signals place ≡ Some read → test read ≡ false
-fails_at test [] place read none there = absurd (cc)
+fails_at : (test : Signal → Bool) (signals : List Signal) (index : ℕ) (read : Signal) → list_any test signals ≡ false
+    → slice_get signals index ≡ Some read → test read ≡ false
+fails_at test [] index read none there = absurd (cc)
 fails_at test (signal ∷ signals) zero read none there =
     let same : signal ≡ read = cc in
     ap test (sym same) ∙ (or_parts (test signal) (list_any test signals) none).0
-fails_at test (signal ∷ signals) (suc place) read none there =
-    fails_at test signals place read (or_parts (test signal) (list_any test signals) none).1 there
+fails_at test (signal ∷ signals) (suc index) read none there =
+    fails_at test signals index read (or_parts (test signal) (list_any test signals) none).1 there
 
-place_from-name : (first : ℕ) (signals : List Signal) (steps : ℕ) (read : Signal) → signals_differ signals ≡ true → slice_get signals steps ≡ Some read
-    → place_from first signals read.name ≡ Some (first + steps)
-place_from-name first [] steps read differ there = absurd (cc)
-place_from-name first (signal ∷ signals) zero read differ there =
+index_from-name : (first : ℕ) (signals : List Signal) (steps : ℕ) (read : Signal) → signals_differ signals ≡ true → slice_get signals steps ≡ Some read
+    → index_from first signals read.name ≡ Some (first + steps)
+index_from-name first [] steps read differ there = absurd (cc)
+index_from-name first (signal ∷ signals) zero read differ there =
     let same : signal ≡ read = cc in
     let here : bytes_eq signal.name read.name ≡ true = (bytes_eq-Decides signal.name read.name).1 (ap (λ (s : Signal). s.name) same) in
     rw here (ap Some (omega arith))
-place_from-name first (signal ∷ signals) (suc steps) read differ there =
+index_from-name first (signal ∷ signals) (suc steps) read differ there =
     let parts = and_parts (not (list_any (λ other. bytes_eq other.name signal.name) signals)) (signals_differ signals) differ in
     let later : bytes_eq read.name signal.name ≡ false =
     fails_at (λ other. bytes_eq other.name signal.name) signals steps read (not-true _ parts.0) there in
     let other : bytes_eq signal.name read.name ≡ false =
     false_from_ne_true _ (λ same.
     both_ways _ later ((bytes_eq-Decides read.name signal.name).1 (sym ((bytes_eq-Decides signal.name read.name).0 same)))) in
-    rw other (place_from-name (first + 1) signals steps read parts.1 there ∙ ap Some (omega arith))
+    rw other (index_from-name (first + 1) signals steps read parts.1 there ∙ ap Some (omega arith))
 
--- the place of a signal is found by its name
-pub place_of-name : (signals : List Signal) (place : ℕ) (read : Signal) → signals_differ signals ≡ true → slice_get signals place ≡ Some read
-    → place_of signals read.name ≡ Some place
-unfolding place_of
-place_of-name signals place read differ there = place_from-name 0 signals place read differ there ∙ ap Some (omega arith)
+-- the index of a signal is found by its name
+pub index_of-name : (signals : List Signal) (index : ℕ) (read : Signal) → signals_differ signals ≡ true → slice_get signals index ≡ Some read
+    → index_of signals read.name ≡ Some index
+unfolding index_of
+index_of-name signals index read differ there = index_from-name 0 signals index read differ there ∙ ap Some (omega arith)
 
 -- signals that a block can name and take as its target
 pub record AreReadable (signals : List Signal) : Type 0 where
   pub differ : signals_differ signals ≡ true
-  pub named : (place : ℕ) (read : Signal) → slice_get signals place ≡ Some read → HasNoBlank read.name
-  pub wide : (place : ℕ) (read : Signal) → slice_get signals place ≡ Some read → is_width read.width ≡ true
+  pub named : (index : ℕ) (read : Signal) → slice_get signals index ≡ Some read → HasNoBlank read.name
+  pub wide : (index : ℕ) (read : Signal) → slice_get signals index ≡ Some read → is_width read.width ≡ true
 
 -- ---- terms
 
@@ -106,15 +106,15 @@ value_below : (width number : ℕ) → is_width width ≡ true → number < 2 ^ 
 unfolding value_where_it_fits
 value_below width number wide below = rw (wide, lt-ltb number (2 ^ width) below) refl
 
-term_cases : (signals : List Signal) (width : ℕ) (text : List ℕ) (a : Operand) (name : Option (List ℕ)) → behind (codes "s.") text ≡ name
-    → option_map_or (λ name. option_map operand.Signal (place_of signals name)) name
+term_cases : (signals : List Signal) (width : ℕ) (text : List ℕ) (a : Operand) (name : Option (List ℕ)) → without_prefix (codes "s.") text ≡ name
+    → option_map_or (λ name. option_map operand.Signal (index_of signals name)) name
     (numeral_below (2 ^ 63) text and_then λ number. option_map operand.Constant (value_where_it_fits width number)) ≡ Some a
     → IsTerm signals width a text
 term_cases signals width text a (Some name) begins is =
-    option_map_some operand.Signal (place_of signals name) a is (λ place found same.
-    let here = place_of_some signals name place found in
-    let written : text ≡ codes "s." ++ here.read.name = behind_some (codes "s.") text name begins ∙ ap (λ (n : List ℕ). codes "s." ++ n) here.named in
-    subst (λ (o : Operand). IsTerm signals width o text) same (rw written (signal_term place here.read here.there)))
+    option_map_some operand.Signal (index_of signals name) a is (λ index found same.
+    let here = index_of_some signals name index found in
+    let written : text ≡ codes "s." ++ here.read.name = without_prefix_some (codes "s.") text name begins ∙ ap (λ (n : List ℕ). codes "s." ++ n) here.named in
+    subst (λ (o : Operand). IsTerm signals width o text) same (rw written (signal_term index here.read here.there)))
 term_cases signals width text a None begins is =
     option_and_then_some _ (numeral_below (2 ^ 63) text) a is (λ number numeral rest.
     option_map_some operand.Constant (value_where_it_fits width number) a rest (λ value found same.
@@ -126,19 +126,19 @@ term_cases signals width text a None begins is =
 operand_of_some : (signals : List Signal) (width : ℕ) (text : List ℕ) (a : Operand) → operand_of signals width text ≡ Some a
     → IsTerm signals width a text
 unfolding operand_of
-operand_of_some signals width text a is = term_cases signals width text a (behind (codes "s.") text) refl is
+operand_of_some signals width text a is = term_cases signals width text a (without_prefix (codes "s.") text) refl is
 
 -- what is written for an operand is read as it
 operand_of-term : (signals : List Signal) (width : ℕ) (a : Operand) (text : List ℕ) → AreReadable signals → is_width width ≡ true
     → IsTerm signals width a text → operand_of signals width text ≡ Some a
 unfolding operand_of
-operand_of-term signals width a text readable wide (signal_term place read there) = rw (place_of-name signals place read readable.differ there) refl
+operand_of-term signals width a text readable wide (signal_term index read there) = rw (index_of-name signals index read readable.differ there) refl
 operand_of-term signals width a text readable wide (number_term value low below) =
-    rw (behind_dot-decimal value (omega arith), numeral_below-decimal (2 ^ 63) value (omega arith) low, value_below width value wide below) refl
+    rw (without_prefix_dot-decimal value (omega arith), numeral_below-decimal (2 ^ 63) value (omega arith) low, value_below width value wide below) refl
 
 term_has_no_blank : (signals : List Signal) (width : ℕ) (a : Operand) (text : List ℕ) → AreReadable signals
     → IsTerm signals width a text → HasNoBlank text
-term_has_no_blank signals width a text readable (signal_term place read there) = (refl, (refl, readable.named place read there))
+term_has_no_blank signals width a text readable (signal_term index read there) = (refl, (refl, readable.named index read there))
 term_has_no_blank signals width a text readable (number_term value low below) = decimal_has_no_blank value (omega arith)
 
 -- ---- signs
@@ -173,17 +173,17 @@ sign_has_no_blank o word exclusive = (refl, tt)
 
 both_of_some : (o : Op) (a b : Operand) (e : Expression) → both_of o a b ≡ Some e → (ReadsSignal a ⊎ ReadsSignal b) × (expression.Both o a b ≡ e)
 unfolding both_of
-both_of_some o (operand.Signal place) b e is = (inl (reads_signal place), cc)
-both_of_some o (operand.Constant bits) (operand.Signal place) e is = (inr (reads_signal place), cc)
+both_of_some o (operand.Signal index) b e is = (inl (reads_signal index), cc)
+both_of_some o (operand.Constant bits) (operand.Signal index) e is = (inr (reads_signal index), cc)
 both_of_some o (operand.Constant bits) (operand.Constant others) e is = absurd (cc)
 
 both_of-first : (o : Op) (a b : Operand) → ReadsSignal a → both_of o a b ≡ Some (expression.Both o a b)
 unfolding both_of
-both_of-first o a b (reads_signal place) = refl
+both_of-first o a b (reads_signal index) = refl
 
 both_of-second : (o : Op) (a b : Operand) → ReadsSignal b → both_of o a b ≡ Some (expression.Both o a b)
 unfolding both_of
-both_of-second o (operand.Signal place) b (reads_signal other) = refl
+both_of-second o (operand.Signal index) b (reads_signal other) = refl
 both_of-second o (operand.Constant bits) b (reads_signal other) = refl
 
 double_of_some : (signals : List Signal) (width : ℕ) (left sign right : List ℕ) (e : Expression) → double_of signals width left sign right ≡ Some e

@@ -13,13 +13,13 @@ abbrev pub is_operand : List ℕ → Bool
 is_operand [] = false
 is_operand (first ∷ rest) = not (first == 45)
 
--- `sim FILE TOP` is a job, and nothing else
+-- `sim FILE TOP` is the only job
 abbrev pub job_of : List (List ℕ) → Option Target
 job_of (action ∷ file ∷ class ∷ []) =
     if bytes_eq action (codes "sim") && is_operand file && is_operand class
     then Some (record { file = file; class = class }) else None
 job_of words = None
 
--- the target that a value of the program's own is
+-- the target that a value of the code means
 abbrev pub target_now : Found → Target
 target_now found = record { file = found.file.now; class = found.class.now }

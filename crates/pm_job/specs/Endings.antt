@@ -1,4 +1,4 @@
--- How a simulation ended, for the program's own use, and what is said of it.
+-- How a simulation ended, and its message. Only the contracts between the parts of the program use these.
 use Rattle.std.specs.Prelude.{ℕ, List, [], Option, None, Some}
 use Rattle.pm_io.specs.Stores.{Files, MayHold, told_among}
 use Rattle.pm_job.specs.declared.component.Component.{Component}
@@ -11,7 +11,7 @@ use Rattle.pm_job.specs.CommandLine.{Target}
 use Rattle.pm_job.specs.Form.{component_of}
 use Rattle.pm_job.specs.Progress.{Ends}
 
--- the status that a simulation ends with
+-- the status of the end
 abbrev pub status_of : Finish → Status
 status_of finish.Done = status.Done
 status_of (finish.Refused line) = status.Refused
@@ -19,7 +19,7 @@ status_of finish.ReadFault = status.ReadFault
 status_of finish.WriteFault = status.WriteFault
 status_of finish.NoMemory = status.NoMemory
 
--- the message that is said of it
+-- the message of the end
 abbrev pub message_of : Finish → List ℕ
 message_of finish.Done = []
 message_of (finish.Refused line) = refusal_line line
@@ -27,12 +27,12 @@ message_of finish.ReadFault = fault_line status.ReadFault
 message_of finish.WriteFault = fault_line status.WriteFault
 message_of finish.NoMemory = fault_line status.NoMemory
 
--- a simulation of what a file holds ended so, where the input is told
+-- if the input tells its bytes, a simulation of what the file holds ended like this
 abbrev pub EndsAs : Option Component → Option (List ℕ) → Option (List ℕ) → Option (List ℕ) → Finish → Type 0
 EndsAs found None old new answer = Unit {0}
 EndsAs found (Some input) old new answer = (outcome : Outcome) × SimulatesIn found input outcome × Ends outcome old new answer
 
--- a simulation of a target ended so, where the input is told
+-- if the input tells its bytes, a simulation of the target ended like this
 abbrev pub EndsTarget : Target → Option Files → Option (List ℕ) → Option (List ℕ) → Option (List ℕ) → Finish → Type 0
 EndsTarget target files None old new answer = Unit {0}
 EndsTarget target files (Some input) old new answer =

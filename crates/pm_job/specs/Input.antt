@@ -1,4 +1,4 @@
--- The rows of an input of vectors: a header line, and behind it a line for each row.
+-- The rows of an input of vectors: a header line, and after it a line for each row.
 use Rattle.std.specs.Prelude.{ℕ, ◌+◌, ◌^◌, ◌&&◌, nat_lt, nat_le, Bool, List, [], ◌∷◌, Option, None, Some, length, if◌then◌else◌}
 use Rattle.std.specs.Str.{bytes_eq}
 use Rattle.pm_bits.specs.Word.{Word}
@@ -16,15 +16,15 @@ pub record Vectors : Type 0 where
 abbrev pub input_widths : Component → List ℕ
 input_widths component = widths_of (vector_ports component)
 
--- a line has 65,536 bytes at the most before its LF
+-- a line has at most 65,536 bytes before its LF
 abbrev pub is_short : Line → Bool
 is_short line = nat_le (length line.bytes) (2 ^ 16)
 
--- the values of a line, where it isn't too long
+-- the values of a line that isn't too long
 abbrev pub line_row : List ℕ → Line → Option (List Word)
 line_row widths line = if is_short line then row_of widths (content line) else None
 
--- the values of a line behind so many rows, of which there are 2 to the 20 at the most
+-- the values of the line after `count` rows; there are at most 2 to the 20 rows
 abbrev pub row_in : Component → ℕ → Line → Option (List Word)
 row_in component count line = if nat_lt count (2 ^ 20) then line_row (input_widths component) line else None
 
@@ -32,7 +32,7 @@ row_in component count line = if nat_lt count (2 ^ 20) then line_row (input_widt
 abbrev pub before_rows : List Word → Vectors → Vectors
 before_rows row vectors = record { rows = row ∷ vectors.rows; refused = vectors.refused }
 
--- the rows of the lines behind so many rows, where the header is line 1
+-- the rows of the lines that follow `count` rows; the header is line 1
 abbrev pub rows_from : Component → ℕ → List Line → Vectors
 rows_from component count [] = record { rows = []; refused = None }
 rows_from component count (line ∷ lines) = elim (row_in component count line) as (λ _. Vectors) [
@@ -44,7 +44,7 @@ rows_from component count (line ∷ lines) = elim (row_in component count line) 
 abbrev pub is_header : Component → Line → Bool
 is_header component line = is_short line && bytes_eq (content line) (header_of component)
 
--- the rows of an input, where its first line is the header; an input without a line has an empty header
+-- the rows of an input, if its first line is the header; an input without lines has an empty header
 abbrev pub vectors_of : Component → List Line → Option Vectors
 vectors_of component [] = if bytes_eq [] (header_of component) then Some (record { rows = []; refused = None }) else None
 vectors_of component (line ∷ lines) = if is_header component line then Some (rows_from component 0 lines) else None

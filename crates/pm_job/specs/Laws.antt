@@ -1,5 +1,5 @@
--- What holds of the equations of a cycle and of the narrow form: blocks in order solve the equations, nothing else does, and their order
--- says no more; a component is read where its lines are written.
+-- Laws of the equations of a cycle and of the narrow form. Blocks that run in order solve the equations, and nothing else
+-- does; the order of writing changes no solution; a component is read from the lines that write it.
 use Rattle.std.specs.Prelude.{◌≡◌, ◌≤◌, ◌^◌, ℕ, true, IsTrue, List, length, All, Contains, Some}
 use Rattle.pm_bits.specs.Word.{Word}
 use Rattle.pm_job.specs.declared.component.Assignment.{Assignment}
@@ -16,7 +16,7 @@ abbrev pub OrderedSettles : Type 0
 OrderedSettles = (blocks : List Assignment) (start : List Word) → is_ordered blocks ≡ true → targets_differ blocks ≡ true
     → AssignWithin (length start) blocks → IsSettled blocks start (after_blocks blocks start)
 
--- the equations of blocks without a loop have one solution and no other, in whatever order the blocks are written
+-- the equations of blocks without a loop have exactly one solution, in whatever order the blocks are written
 abbrev pub OneSolution : Type 0
 OneSolution = (blocks : List Assignment) (start : List Word) → (HasLoop blocks → ⊥) → targets_differ blocks ≡ true → AssignWithin (length start) blocks
     → (settled : List Word) × IsSettled blocks start settled × ((other : List Word) → IsSettled blocks start other → other ≡ settled)
@@ -30,7 +30,7 @@ abbrev pub SettledPermuted : Type 0
 SettledPermuted = (blocks blocks' : List Assignment) (start settled : List Word) → HaveSameBlocks blocks blocks'
     → IsSettled blocks start settled → IsSettled blocks' start settled
 
--- a text of 2 to the 20 bytes at the most has the lines of a sound component, empty ones left out
+-- a text of at most 2 to the 20 bytes has the lines of a sound component, without the empty ones
 abbrev pub Writes : List ℕ → List ℕ → Component → Type 0
 Writes class text component = (length text ≤ 2 ^ 20) × AreComponentLines class component (form_lines text) × IsTrue (is_sound component)
 

@@ -1,4 +1,4 @@
--- What holds of every component of the narrow form: widths agree, and every place names a signal.
+-- What is true of every component of the narrow form: widths agree, and every index is that of a signal.
 use Rattle.std.specs.Prelude.{ℕ, Bool, true, false, ◌==◌, ◌&&◌, nat_le, List, map, slice_get}
 use Rattle.std.specs.Option.{option_map_or}
 use Rattle.std.specs.List.{list_all}
@@ -20,13 +20,13 @@ widths_of = map (λ signal. signal.width)
 abbrev pub is_width : ℕ → Bool
 is_width width = nat_le 1 width && nat_le width 128
 
--- there is a signal at the place, and it has this width
+-- there is a signal at the index, and it has this width
 abbrev pub has_width : List ℕ → ℕ → ℕ → Bool
-has_width widths width place = option_map_or (λ known. known == width) (slice_get widths place) false
+has_width widths width index = option_map_or (λ known. known == width) (slice_get widths index) false
 
 -- an operand has this width
 abbrev pub operand_fits : List ℕ → ℕ → Operand → Bool
-operand_fits widths width (operand.Signal place) = has_width widths width place
+operand_fits widths width (operand.Signal index) = has_width widths width index
 operand_fits widths width (operand.Constant bits) = bits.width == width
 
 -- an operator's result has the width of its operands

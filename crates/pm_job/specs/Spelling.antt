@@ -11,12 +11,12 @@ use Rattle.pm_syn.specs.Names.{is_proper_name}
 use Rattle.pm_job.specs.Words.{is_blank, number_below}
 use Rattle.pm_job.specs.Sound.{is_width}
 
--- what the second step makes of what the first one gives
+-- the second step on what the first one gives, if it gives something
 infixr 6 ◌and_then◌
 abbrev pub ◌and_then◌ : {A B : Type 0} → Option A → (A → Option B) → Option B
 first and_then second = option_and_then second first
 
--- the text before the first blank, and the text behind it
+-- the text before the first blank, and the text after it
 unfoldable pub cut : List ℕ → Option (List ℕ × List ℕ)
 cut [] = None
 cut (byte ∷ text) = if is_blank byte then Some ([], text) else option_map (λ parts. (byte ∷ parts.0, parts.1)) (cut text)
@@ -25,15 +25,15 @@ cut (byte ∷ text) = if is_blank byte then Some ([], text) else option_map (λ 
 unfoldable pub is_name : List ℕ → Bool
 is_name word = is_proper_name word && nat_le (length word) 64
 
--- a name that a signal or a block may be given
+-- a name that a signal or a block is allowed to have
 unfoldable pub is_new_name : List ℕ → Bool
 is_new_name word = (is_name word && not (bytes_eq word (codes "clk"))) && not (bytes_eq word (codes "reset"))
 
--- the number that a word writes in decimal digits without needless zeros, where it is below the bound
+-- the number that a word writes in decimal digits without leading zeros, if it is below the bound
 unfoldable pub numeral_below : ℕ → List ℕ → Option ℕ
 numeral_below bound word = if slice_index word 0 == 48 && nat_lt 1 (length word) then None else number_below bound word
 
--- the value of a width, where there is one
+-- the number as a value of this width, if it fits
 unfoldable pub value_where_it_fits : ℕ → ℕ → Option Word
 value_where_it_fits width number =
     if is_width width && nat_lt number (2 ^ width) then Some (record { width = width; value = number }) else None
@@ -46,7 +46,7 @@ role_of word =
     else if bytes_eq word (codes "Wire(") then Some role.Inner
     else None
 
--- the operator that a sign stands for
+-- the operator that a sign means
 unfoldable pub operator_of : List ℕ → Option Op
 operator_of word =
     if bytes_eq word (codes "+") then Some op.Add

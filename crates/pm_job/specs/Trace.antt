@@ -11,17 +11,17 @@ use Rattle.pm_job.specs.Words.{blank}
 
 -- ---- the values
 
--- a signal is driven from outside
+-- a signal of this role is an input
 abbrev pub is_input : Role → Bool
 is_input role.Input = true
 is_input role.Output = false
 is_input role.Inner = false
 
--- the signals that are driven from outside, in order of declaration
+-- the inputs, in order of declaration
 abbrev pub inputs_of : List Signal → List Signal
 inputs_of = filter (λ signal. is_input signal.role)
 
--- the values at the start of a cycle: those of the cycle before, with the row's values put on the inputs in order
+-- the values at the start of a cycle: the inputs have the values of the row, and every other signal its value before
 abbrev pub with_inputs : List Signal → List Word → List Word → List Word
 with_inputs [] values row = values
 with_inputs (signal ∷ signals) [] row = []
@@ -33,7 +33,7 @@ with_inputs (signal ∷ signals) (value ∷ values) row =
 abbrev pub initial_values : List Signal → List Word
 initial_values = map (λ signal. record { width = signal.width; value = 0 })
 
--- Each cycle begins with the values of the one before and the row's inputs, and ends with values that solve its equations.
+-- Each cycle begins with the values of the cycle before and the inputs of its row, and ends with values that solve its equations.
 abbrev pub IsTrace : Component → List Word → List (List Word) → List (List Word) → Type 0
 IsTrace component before [] [] = Unit {0}
 IsTrace component before [] (settled ∷ cycles) = ⊥
@@ -43,26 +43,26 @@ IsTrace component before (row ∷ rows) (settled ∷ cycles) =
 
 -- ---- the text
 
--- a signal has a column
+-- a signal of this role has a column
 abbrev pub is_port : Role → Bool
 is_port role.Input = true
 is_port role.Output = true
 is_port role.Inner = false
 
--- the low hexadecimal digits of a number, so many of them, in lower case
+-- the given number of low hexadecimal digits of a number, in lower case
 abbrev pub hex_digits : ℕ → ℕ → List ℕ
 hex_digits zero number = []
 hex_digits (suc n) number = slice_index (codes "0123456789abcdef") (number / 2 ^ (4 * n) % 16) ∷ hex_digits n number
 
--- a value in hexadecimal, with as many digits as a quarter of its width, rounded up
+-- a value in hexadecimal: a digit for each four bits, rounded up
 abbrev pub hex_of : Word → List ℕ
 hex_of word = hex_digits ((word.width + 3) / 4) word.value
 
--- a port's name and a blank before it; a wire has no column
+-- a blank and the name of a port; a wire has no column
 abbrev pub port_name : Signal → List ℕ
 port_name signal = if is_port signal.role then blank ∷ signal.name else []
 
--- a port's value and a blank before it
+-- a blank and the value of a port
 abbrev pub port_value : Signal → Word → List ℕ
 port_value signal value = if is_port signal.role then blank ∷ hex_of value else []
 
@@ -85,7 +85,7 @@ head_text component = codes "cycle" ++ port_names component.signals ++ LF ∷ []
 abbrev pub row_text : Component → ℕ → List Word → List ℕ
 row_text component cycle values = decimal cycle ++ port_values component.signals values ++ LF ∷ []
 
--- the lines of the cycles from this one on
+-- the lines of the cycles, where the first one has this number
 abbrev pub rows_text : Component → ℕ → List (List Word) → List ℕ
 rows_text component cycle [] = []
 rows_text component cycle (values ∷ cycles) = row_text component cycle values ++ rows_text component (cycle + 1) cycles

@@ -15,7 +15,7 @@ use Rattle.pm_job.specs.Words.{blank, words_of, number_below}
 abbrev pub vector_ports : Component → List Signal
 vector_ports component = inputs_of (drop 1 component.signals)
 
--- the header line: the names of the inputs, one blank between each two
+-- the header line: the names of the inputs with a blank between any two
 unfoldable pub header_of : Component → List ℕ
 header_of component = join_with_byte blank (map (λ signal. signal.name) (vector_ports component))
 
@@ -23,7 +23,7 @@ header_of component = join_with_byte blank (map (λ signal. signal.name) (vector
 abbrev pub entries_of : List ℕ → List (List ℕ)
 entries_of line = if length line == 0 then [] else words_of line
 
--- the value of a width that a word writes: a decimal number below 2 to the width
+-- the value of this width that a word writes: a decimal number below 2 to the width
 abbrev pub value_of : ℕ → List ℕ → Option Word
 value_of width word = option_map (λ number. record { width = width; value = number }) (number_below (2 ^ width) word)
 
@@ -39,7 +39,7 @@ values_of (width ∷ widths) (word ∷ words) =
 unfoldable pub row_of : List ℕ → List ℕ → Option (List Word)
 row_of widths line = values_of widths (entries_of line)
 
--- a line was read into a row: its values stand there, or it gives none for these widths
+-- a line was read into a row: the row has its values, or the line gives none for these widths
 abbrev pub ReadsRow : List ℕ → List Word → List Word → RowGot → Type 0
 ReadsRow line old new got.Good = row_of (value_widths old) line ≡ Some new
 ReadsRow line old new got.Bad = row_of (value_widths old) line ≡ None

@@ -31,17 +31,17 @@ pub data IsSign : Op → List ℕ → Type 0 where
   disjunction : IsSign op.Or (codes "|")
   exclusive : IsSign op.Xor (codes "^")
 
--- what is written for an operand where numbers take this width: `s.NAME`, or a number in decimal digits
+-- the text of an operand: `s.NAME`, or a number in decimal digits for a constant of this width
 pub data IsTerm (signals : List Signal) (width : ℕ) : Operand → List ℕ → Type 0 where
-  signal : (place : ℕ) (read : Signal) → slice_get signals place ≡ Some read → IsTerm signals width (operand.Signal place) (codes "s." ++ read.name)
+  signal : (index : ℕ) (read : Signal) → slice_get signals index ≡ Some read → IsTerm signals width (operand.Signal index) (codes "s." ++ read.name)
   number : (value : ℕ) → value < 2 ^ 63 → value < 2 ^ width
       → IsTerm signals width (operand.Constant (record { width = width; value = value })) (decimal value)
 
 -- an operand that reads a signal
 pub data ReadsSignal : Operand → Type 0 where
-  signal : (place : ℕ) → ReadsSignal (operand.Signal place)
+  signal : (index : ℕ) → ReadsSignal (operand.Signal index)
 
--- what is written for an expression: a term, or two terms with a sign between them, one of which reads a signal
+-- the text of an expression: a term, or two terms with a sign between them, at least one of which reads a signal
 pub data IsValue (signals : List Signal) (width : ℕ) : Expression → List ℕ → Type 0 where
   term : (a : Operand) (text : List ℕ) → IsTerm signals width a text → IsValue signals width (expression.Just a) text
   first_signal : (o : Op) (a b : Operand) (left sign right : List ℕ) → IsTerm signals width a left → IsSign o sign → IsTerm signals width b right
@@ -53,7 +53,7 @@ pub data IsValue (signals : List Signal) (width : ℕ) : Expression → List ℕ
 pub record AreBlockLines (signals : List Signal) (block : Assignment) (lines : List (List ℕ)) : Type 0 where
   pub name : IsTrue (is_new_name block.name)
   pub target : Signal
-  pub place : slice_get signals block.target ≡ Some target
+  pub index : slice_get signals block.target ≡ Some target
   pub value : List ℕ
   pub written : IsValue signals target.width block.value value
   pub whole : lines
@@ -65,12 +65,12 @@ pub data AreBlocksLines (signals : List Signal) : List Assignment → List (List
   more : (block : Assignment) (blocks : List Assignment) (lines others : List (List ℕ)) → AreBlockLines signals block lines
       → AreBlocksLines signals blocks others → AreBlocksLines signals (block ∷ blocks) (lines ++ others)
 
--- a signal that a line may declare
+-- a signal that a line can declare
 pub record IsDeclared (signal : Signal) : Type 0 where
   pub name : IsTrue (is_new_name signal.name)
   pub plain : signal.shape ≡ None
 
--- the lines of a component of this class: its head, its signals other than `reset`, and its blocks
+-- the lines of a component of this class: three lines that open it, its signals other than `reset`, and its blocks
 pub record AreComponentLines (class : List ℕ) (component : Component) (lines : List (List ℕ)) : Type 0 where
   pub name : IsTrue (is_name class)
   pub declared : List Signal

@@ -5,7 +5,7 @@ ghost use Rattle.pm_job.specs.CommandLine.{is_operand as spec_is_operand, job_of
 ghost use Rattle.std.specs.Option.{option_map};
 
 /// The design file to simulate, and the class of its top component.
-#[derive(Clone, Copy, Debug)]
+#[derive(Clone, Copy)]
 pub struct Target<'a> {
     /// The name of the file.
     pub file: &'a [u8],
@@ -13,7 +13,7 @@ pub struct Target<'a> {
     pub class: &'a [u8],
 }
 
-/// The job that the words mean: `sim FILE TOP`, and nothing else.
+/// The job that the words mean. `sim FILE TOP` is the only one.
 pub fn job_of(words: &Vec<String>) -> Option<Target<'_>>
     ensures { option_map target_now result ≡ spec_job_of (map string_bytes words.now.items) }
 {

@@ -5,12 +5,12 @@ ghost use Rattle.pm_job.specs.Form as spec;
 
 use crate::component::{Expression, Operand};
 use crate::spelling::{cut, is_new_name, numeral_below, operator_of, role_of, value_where_it_fits};
-use crate::words::{behind, without_ending};
+use crate::words::{without_ending, without_prefix};
 use pm_bits::Op;
 use pm_design::{Role, Signal};
 
 /// What a line declares.
-#[derive(Clone, Copy, Debug)]
+#[derive(Clone, Copy)]
 pub(crate) struct Declaration<'a> {
     pub name: &'a [u8],
     pub role: Role,
@@ -22,9 +22,9 @@ pub(crate) struct Declaration<'a> {
 pub(crate) fn declaration_of(line: &[u8]) -> Option<Declaration<'_>>
     ensures { option_map spec.signal_in result ≡ spec.declaration_of line.now }
 {
-    let text = behind(line, b"    s.")?;
+    let text = without_prefix(line, b"    s.")?;
     let (name, rest) = cut(text)?;
-    let rest = behind(rest, b"= ")?;
+    let rest = without_prefix(rest, b"= ")?;
     let (port, rest) = cut(rest)?;
     let (width, close) = cut(rest)?;
     if close != b")".as_slice() {
@@ -48,14 +48,14 @@ fn declared_as<'a>(name: &'a [u8], port: &[u8], width: &[u8]) -> Option<Declarat
     })
 }
 
-/// The place of the signal of this name.
-#[tactic(auto, unfolding(crate::specs::Form::place_of))]
-pub(crate) fn place_of(signals: &[Signal], name: &[u8]) -> Option<usize>
-    ensures { result ≡ spec.place_of signals.now name.now }
+/// The index of the signal of this name.
+#[tactic(auto, unfolding(crate::specs::Form::index_of))]
+pub(crate) fn index_of(signals: &[Signal], name: &[u8]) -> Option<usize>
+    ensures { result ≡ spec.index_of signals.now name.now }
 {
-    for place in 0..signals.len() {
-        if signals[place].name.as_slice() == name {
-            return Some(place);
+    for index in 0..signals.len() {
+        if signals[index].name.as_slice() == name {
+            return Some(index);
         }
     }
     None
@@ -65,8 +65,8 @@ pub(crate) fn place_of(signals: &[Signal], name: &[u8]) -> Option<usize>
 fn operand_of(signals: &[Signal], width: u32, term: &[u8]) -> Option<Operand>
     ensures { result ≡ spec.operand_of signals.now width term.now }
 {
-    match behind(term, b"s.") {
-        Some(name) => Some(Operand::Signal(place_of(signals, name)?)),
+    match without_prefix(term, b"s.") {
+        Some(name) => Some(Operand::Signal(index_of(signals, name)?)),
         None => {
             let number = numeral_below(1 << 63, term)?;
             Some(Operand::Constant(value_where_it_fits(width, number)?))
@@ -122,19 +122,19 @@ fn expression_of(signals: &[Signal], width: u32, text: &[u8]) -> Option<Expressi
 pub(crate) fn assignment_of(signals: &[Signal], line: &[u8]) -> Option<(usize, Expression)>
     ensures { result ≡ spec.assignment_of signals.now line.now }
 {
-    let text = behind(line, b"      s.")?;
+    let text = without_prefix(line, b"      s.")?;
     let (name, rest) = cut(text)?;
-    let value = behind(rest, b"@= ")?;
-    let target = place_of(signals, name)?;
+    let value = without_prefix(rest, b"@= ")?;
+    let target = index_of(signals, name)?;
     let width = width_at(signals, target)?;
     let value = expression_of(signals, width, value)?;
     Some((target, value))
 }
 
-fn width_at(signals: &[Signal], place: usize) -> Option<u32>
-    ensures { result ≡ spec.width_at signals.now place }
+fn width_at(signals: &[Signal], index: usize) -> Option<u32>
+    ensures { result ≡ spec.width_at signals.now index }
 {
-    Some(signals.get(place)?.width)
+    Some(signals.get(index)?.width)
 }
 
 /// The name of `def NAME():`.
@@ -142,7 +142,7 @@ fn width_at(signals: &[Signal], place: usize) -> Option<u32>
 pub(crate) fn block_name(line: &[u8]) -> Option<&[u8]>
     ensures { option_copied result ≡ spec.block_name line.now }
 {
-    let text = behind(line, b"    def ")?;
+    let text = without_prefix(line, b"    def ")?;
     let name = without_ending(text, b"():")?;
     if is_new_name(name) { Some(name) } else { None }
 }

@@ -6,7 +6,7 @@ pub fn ordered_blocks_settle()
     ensures { OrderedSettles }
 {}
 
-/// The equations of blocks without a loop have one solution and no other, in whatever order the blocks are written.
+/// The equations of blocks without a loop have exactly one solution, in whatever order the blocks are written.
 pub fn blocks_without_a_loop_have_one_solution()
     ensures { OneSolution }
 {}
@@ -16,8 +16,8 @@ pub fn order_of_blocks_leaves_solutions()
     ensures { SettledPermuted }
 {}
 
-/// A component of the narrow form is read from the texts that write it, line by line, and from no others. Empty lines don't
-/// count.
+/// A component of the narrow form is read from the texts that write it, line by line, and from no others. Empty lines
+/// don't count.
 pub fn components_are_read_as_they_are_written()
     ensures { ReadAsWritten }
 {}

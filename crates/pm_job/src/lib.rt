@@ -1,11 +1,17 @@
 //! The program's one call.
 //!
 //! `run` reads its words, loads the design file that they name, simulates the component in it with the vectors of the
-//! input, and writes the trace. Its contract says which output, message and status answer the words, the files and the
-//! input, and what is left after a fault. The files are in the order of the flow: `command_line` reads the words;
-//! `form` with its parts reads a component of the narrow form, and `vectors` the header and the rows of the input;
-//! `order` orders the update blocks or finds a loop; `inputs` and `settle` run a cycle; `trace_text` and `message`
-//! write; `simulate` joins them, and `top` is the call. `laws` says what holds of the values of a cycle.
+//! input, and writes the trace. Its contract says which output, message and status are right for the words, the files
+//! and the input, and what is printed before a fault. In the order of the flow:
+//!
+//! - `command_line` reads the words;
+//! - `form`, with its parts, reads a component of the narrow form, and `vectors` the header and the rows of the input;
+//! - `order` orders the update blocks or finds a loop, and a `schedule` is a component with such an order;
+//! - `inputs` and `settle` run a cycle;
+//! - `trace_text` and `message` write;
+//! - `simulate` joins them, and `top` is the call.
+//!
+//! `laws` says what is true of the values of a cycle and of the narrow form.
 #![tactic(auto)]
 
 mod command_line;
@@ -17,13 +23,12 @@ mod inputs;
 pub mod laws;
 mod message;
 mod order;
+mod schedule;
 mod settle;
 mod simulate;
 mod soundness;
 mod spelling;
 mod status;
-#[cfg(test)]
-mod tests;
 mod top;
 mod trace_text;
 mod vectors;

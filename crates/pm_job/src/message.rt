@@ -10,7 +10,7 @@ use crate::simulate::Finish;
 use itoa::Buffer;
 use pm_io::{LF, Put, Sink, WriteBuffer, put_all};
 
-/// Says that the words mean no job.
+/// Prints the usage line.
 pub fn say_usage<E: Sink>(errors: &mut E) -> Put
     ensures text { Puts (E.held errors.old) (E.held errors.new) usage_line result }
     ensures cause { HasCause (E.faults errors.old) (E.faults errors.new) (result ≡ Put.Failed) }
@@ -21,7 +21,7 @@ pub fn say_usage<E: Sink>(errors: &mut E) -> Put
     )
 }
 
-/// Says how a simulation ended. Nothing is said where it was done to its end.
+/// Prints how a simulation ended. If it was done to its end, nothing is printed.
 pub fn say<E: Sink>(finish: Finish, errors: &mut E) -> Put
     ensures text { Puts (E.held errors.old) (E.held errors.new) (message_of finish) result }
     ensures cause { HasCause (E.faults errors.old) (E.faults errors.new) (result ≡ Put.Failed) }
@@ -35,7 +35,7 @@ pub fn say<E: Sink>(finish: Finish, errors: &mut E) -> Put
     }
 }
 
-// Names a line that is refused.
+// Prints which line is refused.
 fn say_refusal<E: Sink>(line: u64, errors: &mut E) -> Put
     ensures text { Puts (E.held errors.old) (E.held errors.new) (refusal_line line) result }
     ensures cause { HasCause (E.faults errors.old) (E.faults errors.new) (result ≡ Put.Failed) }

@@ -9,17 +9,17 @@ ghost use Rattle.pm_job.specs.Precedence.{blocks_at};
 use crate::component::{Assignment, Component, Expression, Operand};
 use pm_bits::Bits;
 
-/// Runs the update blocks one after another, in the order of their places.
+/// Runs the update blocks one after another, in this order.
 pub fn settle(component: &Component, order: &[usize], values: &mut [Bits])
     requires typed { IsTrue (is_typed (arranged component.now order.now)) }
-    requires places { AreWithin (length component.now.blocks) order.now }
+    requires indices { AreWithin (length component.now.blocks) order.now }
     requires widths { value_widths values.old ≡ widths_of component.now.signals }
     ensures values { values.new ≡ after_blocks (blocks_at component.now.blocks order.now) values.old }
     ensures widths { value_widths values.new ≡ value_widths values.old }
 {
     let blocks = component.blocks.as_slice();
-    for place in order {
-        run_block(&blocks[*place], values);
+    for index in order {
+        run_block(&blocks[*index], values);
     }
 }
 
@@ -52,7 +52,7 @@ fn operand_value(operand: Operand, values: &[Bits]) -> Bits
     ensures { result ≡ spec_operand_value (value_at values.now) operand }
 {
     match operand {
-        Operand::Signal(place) => values[place],
+        Operand::Signal(index) => values[index],
         Operand::Constant(bits) => bits,
     }
 }

@@ -7,13 +7,14 @@ ghost use Rattle.pm_io.specs.Lines.{lines_of};
 ghost use Rattle.pm_io.specs.Reading.{ahead};
 ghost use Rattle.pm_io.specs.Streams.{Puts};
 ghost use Rattle.pm_job.specs.Answers.{reset_row, with_reset, zeros_of};
-ghost use Rattle.pm_job.specs.Progress.{AreWithin, EndsRows, EndsRun, Fits, GivesHeader, GivesNoRow, GivesRow, IsOpened, IsReady, arranged, next_values, opening_text};
+ghost use Rattle.pm_job.specs.Progress.{CanRun, EndsRows, EndsRun, Fits, GivesHeader, GivesNoRow, GivesRow, IsOpened, next_values, opening_text, scheduled};
 ghost use Rattle.pm_job.specs.Sound.{is_width, widths_of};
 ghost use Rattle.pm_job.specs.Trace.{inputs_of, initial_values, row_text};
 ghost use Rattle.pm_job.specs.Values.{value_widths};
 
 use crate::component::Component;
 use crate::inputs::{is_input, set_inputs};
+use crate::schedule::Schedule;
 use crate::settle::settle;
 use crate::trace_text::{write_head, write_row};
 use crate::vectors::{RowGot, is_header, read_row};
@@ -22,42 +23,42 @@ use pm_design::Signal;
 use pm_io::{LineGot, Lines, NoMemory, Put, Sink, Source, WriteBuffer};
 use std::alloc::Global;
 
-/// The most bytes of a line of the input before its LF.
+/// The greatest length of a line of the input before its LF, in bytes.
 pub const LINE_LIMIT: usize = 65_536;
 
-/// The most rows of an input.
+/// The greatest number of rows of an input.
 pub const ROW_LIMIT: u64 = 1_048_576;
 
 /// How a simulation ended.
-#[derive(Clone, Copy, Debug, PartialEq, Eq)]
+#[derive(Clone, Copy)]
 pub enum Finish {
     /// The input was read to its end.
     Done,
     /// A line was refused, after the rows before it.
     Refused(u64),
-    /// The input couldn't be read on.
+    /// A read of the input failed, or the design file couldn't be loaded.
     ReadFault,
-    /// The output couldn't be written on.
+    /// A write of the output failed.
     WriteFault,
     /// Memory ran out.
     NoMemory,
 }
 
 /// What the first line of an input is.
-#[derive(Clone, Copy, Debug, PartialEq, Eq)]
+#[derive(Clone, Copy)]
 pub enum HeaderGot {
     /// The header.
     Good,
-    /// Nothing: there is no line, and none is needed.
+    /// Nothing: there is no line, and the component needs none.
     Empty,
     /// Something else.
     Bad,
-    /// Unknown, since a read failed.
+    /// Unknown: a read failed.
     Failed,
 }
 
 /// What the next line of an input is.
-#[derive(Clone, Copy, Debug, PartialEq, Eq)]
+#[derive(Clone, Copy)]
 pub enum NextRow {
     /// A row, whose values were put in place.
     Row,
@@ -65,11 +66,11 @@ pub enum NextRow {
     End,
     /// Something else.
     Refused,
-    /// Unknown, since a read failed.
+    /// Unknown: a read failed.
     Failed,
 }
 
-// The values of a component from cycle to cycle, and room for what is read and written.
+// The values of a component from cycle to cycle, with room for a row and for the text of the trace.
 #[derive(Drop)]
 struct Run {
     values: Vec<Bits>,
@@ -81,14 +82,12 @@ struct Run {
 /// Simulates a component with the vectors of an input, and writes the trace.
 pub fn simulate<I: Source, O: Sink>(
     alloc: Global,
-    component: &Component,
-    order: &[usize],
+    schedule: &Schedule<'_>,
     input: &mut I,
     output: &mut O,
 ) -> Finish
-    requires places { AreWithin (length component.now.blocks) order.now }
-    requires ready { IsReady (arranged component.now order.now) }
-    ensures ends { EndsRun (arranged component.now order.now) (I.left input.old) (O.held output.old) (O.held output.new) result }
+    requires runs { CanRun schedule.now }
+    ensures ends { EndsRun (scheduled schedule.now) (I.left input.old) (O.held output.old) (O.held output.new) result }
     ensures done { result ≡ Finish.Done → Empties (I.left input.old) (I.left input.new) }
     ensures read { HasCause (I.faults input.old) (I.faults input.new) (result ≡ Finish.ReadFault) }
     ensures write { HasCause (O.faults output.old) (O.faults output.new) (result ≡ Finish.WriteFault) }
@@ -97,15 +96,15 @@ pub fn simulate<I: Source, O: Sink>(
     let Ok(mut lines) = Lines::new(alloc, LINE_LIMIT) else {
         return Finish::NoMemory;
     };
-    let Ok(mut run) = first_run(alloc, component) else {
+    let Ok(mut run) = first_run(alloc, schedule.component) else {
         return Finish::NoMemory;
     };
-    match read_header(component, &mut lines, input) {
-        HeaderGot::Good => match open_trace(component, order, &mut run, output) {
-            Put::All => follow_rows(component, order, &mut lines, input, &mut run, output),
+    match read_header(schedule.component, &mut lines, input) {
+        HeaderGot::Good => match open_trace(schedule, &mut run, output) {
+            Put::All => follow_rows(schedule, &mut lines, input, &mut run, output),
             Put::Failed => Finish::WriteFault,
         },
-        HeaderGot::Empty => match open_trace(component, order, &mut run, output) {
+        HeaderGot::Empty => match open_trace(schedule, &mut run, output) {
             Put::All => Finish::Done,
             Put::Failed => Finish::WriteFault,
         },
@@ -114,7 +113,7 @@ pub fn simulate<I: Source, O: Sink>(
     }
 }
 
-// The values before the first cycle, and a row with `reset` at 1 and all else at 0.
+// The values before the first cycle, and a row in which `reset` is 1 and each other input 0.
 fn first_run(alloc: Global, component: &Component) -> Result<Run, NoMemory>
     requires { list_all is_width (widths_of component.now.signals) ≡ true }
     ensures values { IfOk result (λ run. run.values.items ≡ initial_values component.now.signals) }
@@ -142,22 +141,22 @@ fn zeros(alloc: Global, signals: &[Signal]) -> Result<Vec<Bits>, NoMemory>
     Ok(values)
 }
 
-// A one of one bit, and a zero of the width of each input behind the first signal.
+// The value of `reset`, 1, and a zero of the width of each other input.
 fn reset_values(alloc: Global, signals: &[Signal]) -> Result<Vec<Bits>, NoMemory>
     requires { list_all is_width (widths_of signals.now) ≡ true }
     ensures { IfOk result (λ row. row.items ≡ with_reset 1 (zeros_of (widths_of (inputs_of (drop 1 signals.now))))) }
 {
     let mut row = Vec::new(alloc);
     row.push(bit(true))?;
-    for place in 1..signals.len() {
-        let signal = &signals[place];
+    for index in 1..signals.len() {
+        let signal = &signals[index];
         if is_input(signal.role) {
             row.push(zero(signal.width))?;
         }
     }
     Ok(row)
 }
-// Reads the next line into the row, behind the value of `reset`.
+// Reads the next line into the row, after its value of `reset`.
 fn next_row<I: Source>(lines: &mut Lines, input: &mut I, row: &mut [Bits]) -> NextRow
     requires live { IsTrue lines.old.live }
     requires limit { lines.old.limit ≡ LINE_LIMIT }
@@ -210,71 +209,62 @@ fn read_header<I: Source>(component: &Component, lines: &mut Lines, input: &mut 
     }
 }
 
-// Runs a cycle with the row as it is, and writes its line.
+// Runs a cycle with this row, and writes its line.
 #[tactic(auto, unfolding(crate::specs::Progress::next_values))]
-fn run_cycle<O: Sink>(
-    component: &Component,
-    order: &[usize],
-    cycle: u64,
-    run: &mut Run,
-    output: &mut O,
-) -> Put
-    requires places { AreWithin (length component.now.blocks) order.now }
-    requires ready { IsReady (arranged component.now order.now) }
-    requires fits { Fits (arranged component.now order.now) run.old.values.items run.old.row.items }
+fn run_cycle<O: Sink>(schedule: &Schedule<'_>, cycle: u64, run: &mut Run, output: &mut O) -> Put
+    requires runs { CanRun schedule.now }
+    requires fits { Fits (scheduled schedule.now) run.old.values.items run.old.row.items }
     requires empty { run.old.buffer ≡ [] }
     ensures text { Puts (O.held output.old) (O.held output.new)
-        (row_text (arranged component.now order.now) cycle (next_values (arranged component.now order.now) run.old.values.items run.old.row.items)) result }
-    ensures values { run.new.values.items ≡ next_values (arranged component.now order.now) run.old.values.items run.old.row.items }
+        (row_text (scheduled schedule.now) cycle (next_values (scheduled schedule.now) run.old.values.items run.old.row.items)) result }
+    ensures values { run.new.values.items ≡ next_values (scheduled schedule.now) run.old.values.items run.old.row.items }
     ensures row { run.new.row.items ≡ run.old.row.items }
-    ensures fits { Fits (arranged component.now order.now) run.new.values.items run.new.row.items }
+    ensures fits { Fits (scheduled schedule.now) run.new.values.items run.new.row.items }
     ensures empty { result ≡ Put.All → run.new.buffer ≡ [] }
     ensures cause { HasCause (O.faults output.old) (O.faults output.new) (result ≡ Put.Failed) }
 {
+    let component = schedule.component;
     set_inputs(component.signals.as_slice(), &run.row, &mut run.values);
-    settle(component, order, &mut run.values);
+    settle(component, schedule.order, &mut run.values);
     write_row(component, cycle, &run.values, &mut run.buffer, output)
 }
 
-// Writes the head and the rows of the two cycles of reset, and sets the row to `reset` at 0.
-fn open_trace<O: Sink>(component: &Component, order: &[usize], run: &mut Run, output: &mut O) -> Put
-    requires places { AreWithin (length component.now.blocks) order.now }
-    requires ready { IsReady (arranged component.now order.now) }
-    requires values { run.old.values.items ≡ initial_values (arranged component.now order.now).signals }
-    requires row { run.old.row.items ≡ reset_row (arranged component.now order.now) }
+// Writes the first line and the lines of the two cycles of reset, and sets `reset` to 0 in the row.
+fn open_trace<O: Sink>(schedule: &Schedule<'_>, run: &mut Run, output: &mut O) -> Put
+    requires runs { CanRun schedule.now }
+    requires values { run.old.values.items ≡ initial_values (scheduled schedule.now).signals }
+    requires row { run.old.row.items ≡ reset_row (scheduled schedule.now) }
     requires empty { run.old.buffer ≡ [] }
-    ensures text { Puts (O.held output.old) (O.held output.new) (opening_text (arranged component.now order.now)) result }
-    ensures opened { result ≡ Put.All → IsOpened (arranged component.now order.now) run.new.values.items run.new.row.items run.new.buffer }
+    ensures text { Puts (O.held output.old) (O.held output.new) (opening_text (scheduled schedule.now)) result }
+    ensures opened { result ≡ Put.All → IsOpened (scheduled schedule.now) run.new.values.items run.new.row.items run.new.buffer }
     ensures cause { HasCause (O.faults output.old) (O.faults output.new) (result ≡ Put.Failed) }
 {
-    match write_head(component, &mut run.buffer, output) {
+    match write_head(schedule.component, &mut run.buffer, output) {
         Put::All => {}
         Put::Failed => return Put::Failed,
     }
-    match run_cycle(component, order, 0, run, output) {
+    match run_cycle(schedule, 0, run, output) {
         Put::All => {}
         Put::Failed => return Put::Failed,
     }
-    let put = run_cycle(component, order, 1, run, output);
+    let put = run_cycle(schedule, 1, run, output);
     run.row[0] = bit(false);
     put
 }
 
 // Runs a cycle for each line that is left of the input.
 fn follow_rows<I: Source, O: Sink>(
-    component: &Component,
-    order: &[usize],
+    schedule: &Schedule<'_>,
     lines: &mut Lines,
     input: &mut I,
     run: &mut Run,
     output: &mut O,
 ) -> Finish
-    requires places { AreWithin (length component.now.blocks) order.now }
-    requires ready { IsReady (arranged component.now order.now) }
+    requires runs { CanRun schedule.now }
     requires live { IsTrue lines.old.live }
     requires limit { lines.old.limit ≡ LINE_LIMIT }
-    requires opened { IsOpened (arranged component.now order.now) run.old.values.items run.old.row.items run.old.buffer }
-    ensures ends { EndsRows (arranged component.now order.now) run.old.values.items (ahead lines.old.buffered (I.left input.old)) (O.held output.old) (O.held output.new) result }
+    requires opened { IsOpened (scheduled schedule.now) run.old.values.items run.old.row.items run.old.buffer }
+    ensures ends { EndsRows (scheduled schedule.now) run.old.values.items (ahead lines.old.buffered (I.left input.old)) (O.held output.old) (O.held output.new) result }
     ensures done { result ≡ Finish.Done → Empties (I.left input.old) (I.left input.new) }
     ensures read { HasCause (I.faults input.old) (I.faults input.new) (result ≡ Finish.ReadFault) }
     ensures write { HasCause (O.faults output.old) (O.faults output.new) (result ≡ Finish.WriteFault) }
@@ -287,7 +277,7 @@ fn follow_rows<I: Source, O: Sink>(
             NextRow::Refused => return Finish::Refused(count + 2),
             NextRow::Failed => return Finish::ReadFault,
         }
-        match run_cycle(component, order, count + 2, run, output) {
+        match run_cycle(schedule, count + 2, run, output) {
             Put::All => {}
             Put::Failed => return Finish::WriteFault,
         }
@@ -295,7 +285,7 @@ fn follow_rows<I: Source, O: Sink>(
     past_last_row(lines, input)
 }
 
-// All rows that there may be were read: one more line is refused.
+// Ends a run after the greatest number of rows: one more line is refused.
 fn past_last_row<I: Source>(lines: &mut Lines, input: &mut I) -> Finish
     requires live { IsTrue lines.old.live }
     ensures past { GivesNoRow (ahead lines.old.buffered (I.left input.old)) result }

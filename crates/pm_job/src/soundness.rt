@@ -1,4 +1,4 @@
-//! What the spelling of its lines doesn't show of a component of the narrow form: counts, names, targets and widths.
+//! What lines alone don't show of a component of the narrow form: counts, names, targets and widths.
 ghost use Rattle.std.specs.Prelude.{◌≡◌, ◌==◌, not, false, slice_get};
 ghost use Rattle.std.specs.Option.{option_map_or};
 ghost use Rattle.std.specs.List.{list_all, list_any};
@@ -12,7 +12,7 @@ use crate::inputs::is_input;
 use pm_bits::Op;
 use pm_design::Signal;
 
-/// Whether counts, names, targets and widths of a component are those of the form.
+/// Whether the form allows the counts, names, targets and widths of a component.
 #[tactic(auto, unfolding(crate::specs::Form::is_sound))]
 pub(crate) fn is_sound(component: &Component) -> bool
     ensures { result ≡ spec.is_sound component.now }
@@ -37,8 +37,8 @@ fn is_counted(component: &Component) -> bool
 fn signals_differ(signals: &[Signal]) -> bool
     ensures { result ≡ spec.signals_differ signals.now }
 {
-    for place in 0..signals.len() {
-        if is_signal(&signals[place + 1..], signals[place].name.as_slice()) {
+    for index in 0..signals.len() {
+        if has_signal(&signals[index + 1..], signals[index].name.as_slice()) {
             return false;
         }
     }
@@ -46,23 +46,18 @@ fn signals_differ(signals: &[Signal]) -> bool
 }
 
 // Whether one of the signals has this name.
-fn is_signal(signals: &[Signal], name: &[u8]) -> bool
+fn has_signal(signals: &[Signal], name: &[u8]) -> bool
     ensures { result ≡ list_any (λ signal. bytes_eq signal.name name.now) signals.now }
 {
-    for signal in signals {
-        if signal.name.as_slice() == name {
-            return true;
-        }
-    }
-    false
+    signals.iter().any(|signal| signal.name.as_slice() == name)
 }
 
 fn names_differ(signals: &[Signal], blocks: &[Assignment]) -> bool
     ensures { result ≡ spec.names_differ signals.now blocks.now }
 {
-    for place in 0..blocks.len() {
-        let name = blocks[place].name.as_slice();
-        if is_signal(signals, name) || is_block(&blocks[place + 1..], name) {
+    for index in 0..blocks.len() {
+        let name = blocks[index].name.as_slice();
+        if has_signal(signals, name) || has_block(&blocks[index + 1..], name) {
             return false;
         }
     }
@@ -70,52 +65,37 @@ fn names_differ(signals: &[Signal], blocks: &[Assignment]) -> bool
 }
 
 // Whether one of the blocks has this name.
-fn is_block(blocks: &[Assignment], name: &[u8]) -> bool
+fn has_block(blocks: &[Assignment], name: &[u8]) -> bool
     ensures { result ≡ list_any (λ block. bytes_eq block.name name.now) blocks.now }
 {
-    for block in blocks {
-        if block.name.as_slice() == name {
-            return true;
-        }
-    }
-    false
+    blocks.iter().any(|block| block.name.as_slice() == name)
 }
 
 fn targets_differ(blocks: &[Assignment]) -> bool
     ensures { result ≡ spec.targets_differ blocks.now }
 {
-    for place in 0..blocks.len() {
-        if is_target(&blocks[place + 1..], blocks[place].target) {
+    for index in 0..blocks.len() {
+        if some_assigns(&blocks[index + 1..], blocks[index].target) {
             return false;
         }
     }
     true
 }
 
-// Whether one of the blocks has this target.
-fn is_target(blocks: &[Assignment], target: usize) -> bool
+// Whether one of the blocks assigns this signal.
+fn some_assigns(blocks: &[Assignment], target: usize) -> bool
     ensures { result ≡ list_any (λ block. block.target == target) blocks.now }
 {
-    for block in blocks {
-        if block.target == target {
-            return true;
-        }
-    }
-    false
+    blocks.iter().any(|block| block.target == target)
 }
 
 fn have_targets(signals: &[Signal], blocks: &[Assignment]) -> bool
     ensures { result ≡ list_all (spec.has_target signals.now) blocks.now }
 {
-    for block in blocks {
-        if !has_target(signals, block.target) {
-            return false;
-        }
-    }
-    true
+    blocks.iter().all(|block| has_target(signals, block.target))
 }
 
-// Whether a target is a signal and no input.
+// Whether a target is a signal, but not an input.
 fn has_target(signals: &[Signal], target: usize) -> bool
     ensures { result ≡ spec.is_driven signals.now target }
 {
@@ -136,22 +116,23 @@ fn have_widths(signals: &[Signal]) -> bool
     ensures { result ≡ list_all sound.is_width (sound.widths_of signals.now) }
 {
     for signal in signals {
-        if !(1 <= signal.width && signal.width <= 128) {
+        if !is_width(signal.width) {
             return false;
         }
     }
     true
 }
 
+fn is_width(width: u32) -> bool
+    ensures { result ≡ sound.is_width width }
+{
+    1 <= width && width <= 128
+}
+
 fn are_typed(signals: &[Signal], blocks: &[Assignment]) -> bool
     ensures { result ≡ list_all (sound.assignment_fits (sound.widths_of signals.now)) blocks.now }
 {
-    for block in blocks {
-        if !assignment_fits(signals, block.target, block.value) {
-            return false;
-        }
-    }
-    true
+    blocks.iter().all(|block| assignment_fits(signals, block.target, block.value))
 }
 
 fn assignment_fits(signals: &[Signal], target: usize, value: Expression) -> bool
@@ -178,15 +159,15 @@ fn operand_fits(signals: &[Signal], width: u32, operand: Operand) -> bool
     ensures { result ≡ sound.operand_fits (sound.widths_of signals.now) width operand }
 {
     match operand {
-        Operand::Signal(place) => has_width(signals, width, place),
+        Operand::Signal(index) => has_width(signals, width, index),
         Operand::Constant(bits) => bits.width() == width,
     }
 }
 
-fn has_width(signals: &[Signal], width: u32, place: usize) -> bool
-    ensures { result ≡ sound.has_width (sound.widths_of signals.now) width place }
+fn has_width(signals: &[Signal], width: u32, index: usize) -> bool
+    ensures { result ≡ sound.has_width (sound.widths_of signals.now) width index }
 {
-    match signals.get(place) {
+    match signals.get(index) {
         Some(signal) => signal.width == width,
         None => false,
     }

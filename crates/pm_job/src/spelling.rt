@@ -11,7 +11,7 @@ use pm_syn::is_proper_name;
 /// The greatest length of a name.
 const MAX_NAME: usize = 64;
 
-/// The text before the first blank, and the text behind it.
+/// The text before the first blank, and the text after it.
 #[tactic(auto, using(crate::proofs::Cuts::cut_at, crate::proofs::Cuts::cut_nowhere))]
 pub(crate) fn cut(text: &[u8]) -> Option<(&[u8], &[u8])>
     ensures { option_map (λ parts. (parts.0.now, parts.1.now)) result ≡ spec.cut text.now }
@@ -30,7 +30,7 @@ pub(crate) fn is_name(word: &[u8]) -> bool
     is_proper_name(word) && word.len() <= MAX_NAME
 }
 
-/// Whether a signal or a block may be given this name.
+/// Whether a signal or a block is allowed to have this name.
 #[tactic(auto, unfolding(crate::specs::Spelling::is_new_name))]
 pub(crate) fn is_new_name(word: &[u8]) -> bool
     ensures { result ≡ spec.is_new_name word.now }
@@ -38,7 +38,7 @@ pub(crate) fn is_new_name(word: &[u8]) -> bool
     is_name(word) && word != b"clk".as_slice() && word != b"reset".as_slice()
 }
 
-/// The number that a word writes without needless zeros, where it is below the bound.
+/// The number that a word writes without leading zeros, if it is below the bound.
 #[tactic(auto, unfolding(crate::specs::Spelling::numeral_below))]
 pub(crate) fn numeral_below(bound: u128, word: &[u8]) -> Option<u128>
     ensures value { result ≡ spec.numeral_below bound word.now }
@@ -50,7 +50,7 @@ pub(crate) fn numeral_below(bound: u128, word: &[u8]) -> Option<u128>
     number(word).filter(|value| *value < bound)
 }
 
-/// The value of a width, where there is one.
+/// The number as a value of this width, if it fits.
 #[tactic(auto, unfolding(crate::specs::Spelling::value_where_it_fits))]
 pub(crate) fn value_where_it_fits(width: u32, number: u128) -> Option<Bits>
     ensures { result ≡ spec.value_where_it_fits width number }
@@ -74,7 +74,7 @@ pub(crate) fn role_of(word: &[u8]) -> Option<Role>
     }
 }
 
-/// The operator that a sign stands for.
+/// The operator that a sign means.
 #[tactic(auto, unfolding(crate::specs::Spelling::operator_of))]
 pub(crate) fn operator_of(word: &[u8]) -> Option<Op>
     ensures { result ≡ spec.operator_of word.now }

@@ -3,7 +3,7 @@ ghost use Rattle.std.specs.Prelude.{◌≡◌};
 ghost use Rattle.pm_job.specs.Codes.{code_of};
 
 /// How the program ends.
-#[derive(Clone, Copy, Debug, PartialEq, Eq)]
+#[derive(Clone, Copy)]
 pub enum Status {
     /// The action was done to its end.
     Done,
@@ -11,9 +11,9 @@ pub enum Status {
     Refused,
     /// The words mean no job.
     Usage,
-    /// The input or a file couldn't be read.
+    /// A read of the input failed, or a file couldn't be loaded.
     ReadFault,
-    /// The output or a file couldn't be written.
+    /// A write of the output failed, or a file couldn't be written.
     WriteFault,
     /// Memory ran out.
     NoMemory,

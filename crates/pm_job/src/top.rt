@@ -14,13 +14,14 @@ use crate::component::Component;
 use crate::form::{MAX_TEXT, read_component};
 use crate::message::{say, say_usage};
 use crate::order::order_of;
+use crate::schedule::Schedule;
 use crate::simulate::{Finish, simulate};
 use crate::status::Status;
 use pm_io::{Gate, Loaded, Sink, Source, Store};
 use std::alloc::Global;
 use std::thread::Threads;
 
-/// Does the job that the words mean, and says how that ended. The words don't include the program's name.
+/// Does the job that the words mean, and returns how it ended. The words don't include the program's name.
 ///
 /// The store has no current file when the call begins. A failure of `errors` changes no status.
 pub fn run<R: Threads + Sync, I: Source, O: Sink, E: Sink, S: Store, G: Gate>(
@@ -35,12 +36,12 @@ pub fn run<R: Threads + Sync, I: Source, O: Sink, E: Sink, S: Store, G: Gate>(
 ) -> Status
     requires { S.current store.old ≡ None }
 
-    // The output, the message and the status are an answer to the words, the files and the input, where these are told;
-    // after a fault, and where memory ran out, the output is a front of such an answer's.
+    // If the objects tell their contents: the output, the message and the status are right for the words, the files and
+    // the input. After a fault, or when memory ran out, the output is a prefix of a right output.
     ensures answer { Answers (spec_job_of (map string_bytes words.now.items)) (S.files store.old) (I.left input.old)
         (Shows result (O.held output.old) (O.held output.new) (E.held errors.old) (E.held errors.new) (E.faults errors.old) (E.faults errors.new)) }
 
-    // Whatever is told: `errors` has the status's line, or a front of it where its count of faults rose.
+    // In any case: `errors` gets the message of the status, or a prefix of it if its count of faults rose.
     ensures message { (message : List ℕ) × IsMessageOf result message
         × Says (E.held errors.old) (E.held errors.new) (E.faults errors.old) (E.faults errors.new) message }
     ensures usage { (result ≡ Status.Usage) ↔ (spec_job_of (map string_bytes words.now.items) ≡ None) }
@@ -50,7 +51,7 @@ pub fn run<R: Threads + Sync, I: Source, O: Sink, E: Sink, S: Store, G: Gate>(
     ensures write_fault { result ≡ Status.WriteFault → Rose (O.faults output.old) (O.faults output.new) }
     ensures no_memory { result ≡ Status.NoMemory → O.held output.new ≡ O.held output.old }
 
-    // Nothing is created, and no file changes.
+    // No file is created, and none changes.
     ensures files { S.files store.new ≡ S.files store.old }
     ensures current { S.current store.new ≡ None }
 {
@@ -70,7 +71,7 @@ pub fn run<R: Threads + Sync, I: Source, O: Sink, E: Sink, S: Store, G: Gate>(
     }
 }
 
-// Loads the design file and simulates the component that it holds.
+// Loads the design file, and simulates the component in it.
 fn simulate_target<I: Source, O: Sink, S: Store>(
     alloc: Global,
     target: Target<'_>,
@@ -97,7 +98,7 @@ fn simulate_target<I: Source, O: Sink, S: Store>(
     }
 }
 
-// Simulates the component of this class that a text holds.
+// Simulates the component of this class that a text spells.
 fn simulate_text<I: Source, O: Sink>(
     alloc: Global,
     class: &[u8],
@@ -120,7 +121,7 @@ fn simulate_text<I: Source, O: Sink>(
     }
 }
 
-// Simulates a component in an order of its blocks. A loop is refused.
+// Orders the blocks of a component, and simulates it. A loop is refused.
 fn simulate_component<I: Source, O: Sink>(
     alloc: Global,
     component: &Component,
@@ -138,7 +139,13 @@ fn simulate_component<I: Source, O: Sink>(
         return Finish::NoMemory;
     };
     match found {
-        Some(order) => simulate(alloc, component, &order, input, output),
+        Some(order) => {
+            let schedule = Schedule {
+                component,
+                order: &order,
+            };
+            simulate(alloc, &schedule, input, output)
+        }
         None => Finish::Refused(1),
     }
 }

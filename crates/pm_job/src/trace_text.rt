@@ -1,4 +1,4 @@
-//! The text of a trace: a line of names, and then a line a cycle.
+//! The text of a trace: a line of names, and then a line for each cycle.
 ghost use Rattle.std.specs.Prelude.{◌≡◌, ◌≤◌, length, [], List, ℕ};
 ghost use Rattle.pm_io.specs.Causes.{HasCause};
 ghost use Rattle.pm_io.specs.Streams.{Puts};
@@ -17,7 +17,7 @@ pub const BLANK: u8 = b' ';
 /// The hexadecimal digits, by their values.
 pub const HEX_DIGITS: [u8; 16] = *b"0123456789abcdef";
 
-/// Writes the line of names. `buffer` has to be empty, and is so afterwards, unless the write failed.
+/// Writes the line of names. The buffer is empty before, and afterwards unless the write failed.
 pub fn write_head<K: Sink>(component: &Component, buffer: &mut WriteBuffer, sink: &mut K) -> Put
     requires { buffer.old ≡ [] }
     ensures text { Puts (K.held sink.old) (K.held sink.new) (head_text component.now) result }
@@ -30,7 +30,7 @@ pub fn write_head<K: Sink>(component: &Component, buffer: &mut WriteBuffer, sink
     }
 }
 
-/// Writes the line of a cycle. `buffer` has to be empty, and is so afterwards, unless the write failed.
+/// Writes the line of a cycle. The buffer is empty before, and afterwards unless the write failed.
 pub fn write_row<K: Sink>(
     component: &Component,
     cycle: u64,
@@ -97,7 +97,7 @@ fn queue_names<K: Sink>(signals: &[Signal], buffer: &mut WriteBuffer, sink: &mut
     Put::All
 }
 
-// A port's name and a blank before it; nothing for a wire.
+// A blank and the name of a port; nothing for a wire.
 fn queue_name<K: Sink>(signal: &Signal, buffer: &mut WriteBuffer, sink: &mut K) -> Put
     ensures text { Queues (K.held sink.old) (K.held sink.new) buffer.old buffer.new (port_name signal.now) result }
     ensures cause { HasCause (K.faults sink.old) (K.faults sink.new) (result ≡ Put.Failed) }
@@ -121,8 +121,8 @@ fn queue_values<K: Sink>(
     ensures text { Queues (K.held sink.old) (K.held sink.new) buffer.old buffer.new (port_values signals.now values.now) result }
     ensures cause { HasCause (K.faults sink.old) (K.faults sink.new) (result ≡ Put.Failed) }
 {
-    for (place, signal) in signals.iter().enumerate() {
-        match queue_value(signal, values[place], buffer, sink) {
+    for (index, signal) in signals.iter().enumerate() {
+        match queue_value(signal, values[index], buffer, sink) {
             Put::Failed => return Put::Failed,
             Put::All => {}
         }
@@ -130,7 +130,7 @@ fn queue_values<K: Sink>(
     Put::All
 }
 
-// A port's value and a blank before it; nothing for a wire.
+// A blank and the value of a port; nothing for a wire.
 fn queue_value<K: Sink>(signal: &Signal, value: Bits, buffer: &mut WriteBuffer, sink: &mut K) -> Put
     ensures text { Queues (K.held sink.old) (K.held sink.new) buffer.old buffer.new (port_value signal.now value) result }
     ensures cause { HasCause (K.faults sink.old) (K.faults sink.new) (result ≡ Put.Failed) }
@@ -144,7 +144,7 @@ fn queue_value<K: Sink>(signal: &Signal, value: Bits, buffer: &mut WriteBuffer, 
     }
 }
 
-// The low hexadecimal digits of a number, so many of them.
+// The given number of low hexadecimal digits of a number.
 fn queue_hex<K: Sink>(count: u32, number: u128, buffer: &mut WriteBuffer, sink: &mut K) -> Put
     requires { count ≤ 32 }
     ensures text { Queues (K.held sink.old) (K.held sink.new) buffer.old buffer.new (hex_digits count number) result }
@@ -162,7 +162,7 @@ fn queue_hex<K: Sink>(count: u32, number: u128, buffer: &mut WriteBuffer, sink: 
     Put::All
 }
 
-// Whether a signal has a column.
+// Whether a signal of this role has a column.
 fn is_port(role: Role) -> bool
     ensures { result ≡ spec_is_port role }
 {

@@ -26,7 +26,7 @@ pub loop-round-preserved : goal.loop-round-preserved
 loop-round-preserved c =
     let free = λ (left : List ℕ). position (is_free c.args.blocks.now left) left in
     let seen : free c.as_slice.result.now ≡ free c.loop-round.left.items = ap free c.as_slice.ensures.value in
-    let placed = one_placed c.args.blocks.now c.loop-round.order.items c.loop-round.left.items c.push.new.self.items c.remove.new.self.items c.in-Some.index c.remove.result
+    let placed = one_placed c.args.blocks.now c.loop-round.order.items c.loop-round.left.items c.push.new.self.items c.remove.new.self.items c.in-Some.next c.remove.result
     (c.in-Some.ensures ∙ seen) c.remove.ensures.value c.remove.ensures.items c.in_ok-push.ensures.items c.loop-round.invariant.each_once c.loop-round.invariant.arranged in
     record {
       count = omega (arith, placed.0);
@@ -34,7 +34,7 @@ loop-round-preserved c =
       arranged = placed.2;
     }
 
--- the places that the rounds give are an arrangement
+-- the indices that the rounds give are an arrangement
 arrangement_found : (c : goal.After-drop-left-2) → IsArrangement c.args.blocks.now c.loop-round.order.items
 arrangement_found c =
     let none : length c.loop-round.left.items ≡ 0 = omega arith in

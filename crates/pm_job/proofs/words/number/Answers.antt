@@ -11,9 +11,9 @@ pub returns-in_err-value : goal.returns-in_err-value
 returns-in_err-value c =
     let word = c.args.word.now in
     let value = c.digits.value in
-    let place = c.digits.byte-index in
-    let next = value * 10 + digit_value (get_or word place 0) in
-    let turn = at_drop_more (digits_value_after 10 value) word place 0 c.digits-test.true in
-    let grown = le-digits_value_after 10 next (drop (place + 1) word) (omega arith) in
+    let index = c.digits.byte-index in
+    let next = value * 10 + digit_value (get_or word index 0) in
+    let turn = at_drop_more (digits_value_after 10 value) word index 0 c.digits-test.true in
+    let grown = le-digits_value_after 10 next (drop (index + 1) word) (omega arith) in
     let large : 2 ^ 128 ≤ digits_value 10 word = grind (arith, common_steps, nat_tests) in
     grind (arith, nat_tests, common_steps)

@@ -4,7 +4,7 @@ use Rattle.std.specs.Char.{is_digit}
 use Rattle.std.specs.Str.Parse.{digits_value, digits_value_after}
 use Rattle.pm_job.proofs.words.number.Given as goal
 
--- the digits so far have the value, and the rest is read behind it
+-- the digits so far have the value, and the rest is read after it
 abbrev pub invariant-digits : goal.invariant-digits
 invariant-digits l = record {
   fits : l.value < 2 ^ 128;
