@@ -44,7 +44,7 @@ answers() {
 size=$((2 ** 20))
 half=$((size / 2))
 bad_token="line 1: a bad token, or a bracket that doesn't fit"
-bad_column='line 1: no line may stand at this column'
+bad_column='line 1: no line is allowed at this column'
 too_long='line 1: the logical line has more than 4096 bytes of tokens'
 
 printf '%-36s %9s %11s  %s\n' text seconds memory/KiB answer
