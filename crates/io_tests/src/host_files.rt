@@ -1,11 +1,12 @@
 //! A store over files that each system has, and over a file that the test writes and reads back.
+use crate::fixtures;
 use pm_io::{HostStore, Loaded, Made, Put, Store};
 use std::alloc::Global;
 use std::fs;
 use std::process::Abort;
 use std::rt::Files;
 
-// Loads a file, whose content is this if all of it was loaded.
+// Loads a file of the host, as `fixtures::load` does.
 fn load<R: Files + Abort>(
     rt: &R,
     alloc: Global,
@@ -14,12 +15,8 @@ fn load<R: Files + Abort>(
     answer: Loaded,
     content: &[u8],
 ) {
-    let mut into = Vec::from_slice(alloc, b"old").expect(rt, "memory");
     let mut store = HostStore::new(alloc, rt);
-    assert!(rt; store.load(name, limit, &mut into) == answer);
-    if answer == Loaded::All {
-        assert!(rt; into.as_slice() == content);
-    }
+    fixtures::load(rt, alloc, &mut store, name, limit, answer, content);
 }
 
 #[test]

@@ -3,7 +3,7 @@ ghost use Rattle.std.specs.Prelude.{◌≡◌, ◌<◌, IsSome, length};
 ghost use Rattle.pm_io.specs.Memory.{AreFilled};
 ghost use Rattle.pm_io.specs.MemoryFiles.{NamesDiffer};
 
-use crate::fixtures::{file, numbers, text};
+use crate::fixtures::{file, load, numbers, text};
 use pm_io::{
     Got, List, Loaded, Made, MemFile, MemSink, MemSource, MemStore, Put, Sink, Source, Store, Text,
     Took,
@@ -20,9 +20,14 @@ fn two_pieces(rt: &impl Abort, alloc: Global) -> List<Text>
     List::from_vec(vec![in alloc; first, second].expect(rt, "memory"))
 }
 
+// A source of the two pieces, whose third call fails.
+fn source(rt: &impl Abort, alloc: Global) -> MemSource {
+    MemSource::new(two_pieces(rt, alloc), numbers(rt, alloc, &[3]))
+}
+
 #[test]
 fn a_source_gives_its_pieces(rt: HostRuntime) {
-    let mut source = MemSource::new(two_pieces(&rt, rt.alloc()), numbers(&rt, rt.alloc(), &[3]));
+    let mut source = source(&rt, rt.alloc());
     let mut buffer = [0; 2];
     for (answer, bytes) in [
         (Got::Bytes(2), *b"ab"),
@@ -37,10 +42,14 @@ fn a_source_gives_its_pieces(rt: HostRuntime) {
     }
 }
 
+// A sink of five bytes that takes at most three at once, and whose second call fails.
+fn sink(rt: &impl Abort, alloc: Global) -> MemSink {
+    MemSink::new(alloc, 5, 3, numbers(rt, alloc, &[2])).expect(rt, "memory")
+}
+
 #[test]
 fn a_sink_holds_what_fits(rt: HostRuntime) {
-    let made = MemSink::new(rt.alloc(), 5, 3, numbers(&rt, rt.alloc(), &[2]));
-    let mut sink = made.expect(&rt, "memory");
+    let mut sink = sink(&rt, rt.alloc());
     for (piece, answer) in [
         (b"abcd".as_slice(), Took::Bytes(3)),
         (b"d", Took::Failed),
@@ -71,21 +80,34 @@ fn store(rt: &impl Abort, alloc: Global, room: usize, fails: u64) -> MemStore
     MemStore::new(alloc, two_files(rt, alloc), room, fails).expect(rt, "memory")
 }
 
+// Loads a file for each row, one after the other.
+fn load_each(
+    rt: &impl Abort,
+    alloc: Global,
+    store: &mut MemStore,
+    rows: &[(&[u8], usize, Loaded, &[u8])],
+) {
+    for (name, limit, answer, content) in rows {
+        load(rt, alloc, store, name, *limit, *answer, content);
+    }
+}
+
 #[test]
 fn a_store_loads_its_files(rt: HostRuntime) {
     let mut store = store(&rt, rt.alloc(), 0, 4);
-    let mut into = Vec::new(rt.alloc());
-    for (name, limit, answer, content) in [
-        (b"a", 3, Loaded::All, b"xyz"),
-        (b"a", 2, Loaded::TooLarge, b"..."),
-        (b"c", 3, Loaded::Failed, b"..."),
-        (b"a", 3, Loaded::Failed, b"..."),
-        (b"b", 9, Loaded::All, b"old"),
-    ] {
-        assert!(rt; store.load(name, limit, &mut into) == answer);
-        assert!(rt; answer != Loaded::All || into.as_slice() == content.as_slice());
-    }
-    assert!(rt; store.file(b"a") == Some(b"xyz".as_slice()));
+    load_each(
+        &rt,
+        rt.alloc(),
+        &mut store,
+        &[
+            (b"a", 3, Loaded::All, b"xyz"),
+            (b"a", 2, Loaded::TooLarge, b""),
+            (b"c", 3, Loaded::Failed, b""),
+            (b"a", 3, Loaded::Failed, b""),
+            (b"b", 9, Loaded::All, b"old"),
+        ],
+    );
+    holds(&rt, &store, b"a", b"xyz");
     assert!(rt; store.file(b"c") == None);
 }
 
@@ -113,7 +135,5 @@ fn a_store_writes_its_current_file(rt: HostRuntime) {
     append(&rt, &mut store, b".", Put::All);
     holds(&rt, &store, b"b", b"new.");
     holds(&rt, &store, b"a", b"xyz");
-    let mut into = Vec::new(rt.alloc());
-    assert!(rt; store.load(b"b", 9, &mut into) == Loaded::All);
-    assert!(rt; into.as_slice() == b"new.".as_slice());
+    load(&rt, rt.alloc(), &mut store, b"b", 9, Loaded::All, b"new.");
 }

@@ -1,11 +1,13 @@
 //! Over the objects that never fail a generic caller answers no fault, which is proved and not only run.
-ghost use Rattle.std.specs.Prelude.{◌≡◌, ◌<◌, ◌⊎◌, true, length};
+ghost use Rattle.std.specs.Prelude.{◌≡◌, ◌<◌, ◌⊎◌, None, true, length};
 ghost use Rattle.pm_io.specs.Causes.{Rose};
 
-use crate::fixtures::{file, text};
+use crate::fixtures::{file, load, text};
 use pm_io::{
     Got, List, Loaded, Made, Put, Sink, Source, Store, SureSink, SureSource, SureStore, put_all,
 };
+use std::alloc::Global;
+use std::process::Abort;
 
 #[derive(Clone, Copy, PartialEq, Eq)]
 enum Copied {
@@ -51,17 +53,29 @@ fn copies_never_fail(rt: HostRuntime) {
     assert!(rt; buffer == *b"cb");
 }
 
+// A store of the file `a`.
+fn store(rt: &impl Abort, alloc: Global) -> SureStore
+    ensures { result.current ≡ None }
+{
+    let files = vec![in alloc; file(rt, alloc, b"a", b"xyz")].expect(rt, "memory");
+    SureStore::new(alloc, List::from_vec(files))
+}
+
 #[test]
 fn loads_never_fail(rt: HostRuntime) {
-    let files = vec![in rt.alloc(); file(&rt, rt.alloc(), b"a", b"xyz")].expect(&rt, "memory");
-    let mut store = SureStore::new(rt.alloc(), List::from_vec(files));
+    let mut store = store(&rt, rt.alloc());
     let mut into = Vec::new(rt.alloc());
     let failed = load_fails(&mut store, b"a", &mut into);
     prove!(!failed);
     assert!(rt; into.as_slice() == b"xyz".as_slice());
-    assert!(rt; store.load(b"a", 2, &mut into) == Loaded::TooLarge);
-    assert!(rt; store.load(b"b", 2, &mut into) == Loaded::All);
-    assert!(rt; into.is_empty());
+}
+
+#[test]
+fn a_sure_store_loads_and_writes_its_files(rt: HostRuntime) {
+    let mut store = store(&rt, rt.alloc());
+    load(&rt, rt.alloc(), &mut store, b"a", 9, Loaded::All, b"xyz");
+    load(&rt, rt.alloc(), &mut store, b"a", 2, Loaded::TooLarge, b"");
+    load(&rt, rt.alloc(), &mut store, b"b", 2, Loaded::All, b"");
     assert!(rt; store.create(b"a") == Made::Done);
     assert!(rt; store.append(b"new") == Put::All);
 }
