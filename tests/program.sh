@@ -162,5 +162,23 @@ ended=$?
 head -c 20 cut >out
 expect 'a file that may not grow' 4 'cycle reset a b out' 'pymtl: write fault'
 
+# ---- memory ran out
+
+# The limit falls until the design, which needs a million bytes, has no room any more.
+{
+    printf '#'
+    head -c 1000000 /dev/zero | tr '\0' 'x'
+} >large.py
+cp add.vec in
+for limit in $(seq 12000 -100 1000); do
+    (
+        ulimit -v "$limit"
+        exec "$program" sim large.py Add <in >out 2>err
+    )
+    ended=$?
+    [ "$ended" -ne 1 ] && break
+done
+expect 'a design for which there is no memory' 5 '' 'pymtl: out of memory'
+
 printf "%s\n" "program: $agreed passed, $differed failed"
 [ "$differed" -eq 0 ]
