@@ -2,7 +2,7 @@
 # Runs the built program as a shell does, and compares output, messages and exit status with what README.md says of each
 # way to end. What hands the words and the streams over, `main`, has no contract: it rests on this script.
 #
-#     tests/program.sh [PROGRAM]        crates/pymtl/out/pymtl, which ./pymtl builds where it isn't built, or PROGRAM
+#     tests/program.sh [PROGRAM]        PROGRAM, or crates/pymtl/out/pymtl, which ./pymtl builds if it is older than a source
 #
 # It prints each run that differs, and then how many passed and failed. The exit status is 1 where one differs. Where neither
 # the program nor the toolchain is there, nothing is run, and the status is 0.
@@ -15,7 +15,17 @@ trap 'rm -rf "$work"' EXIT
 agreed=0
 differed=0
 
-if ! [ -x "$program" ]; then
+# Whether the program is there; of crates/pymtl/out/pymtl also whether it is older than no source.
+is_built() {
+    [ -x "$program" ] && { [ "$program" != "$top/crates/pymtl/out/pymtl" ] || [ -z "$(newer_sources)" ]; }
+}
+
+newer_sources() {
+    find "$top/crates" "$top/crates.txt" -name out -prune -o -type f \
+        \( -name '*.rt' -o -name '*.antt' -o -name crates.txt \) -newer "$program" -print -quit
+}
+
+if ! is_built; then
     if ! command -v rt >/dev/null; then
         printf '%s\n' "tests/program.sh: skipped: the program isn't built, and the command rt that builds it isn't there" >&2
         exit 0

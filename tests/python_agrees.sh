@@ -1,10 +1,10 @@
 #!/usr/bin/env bash
-# Compares the statements and the trees of lines that the program `parse_lines` reads with those that Python's own parser
-# reads: in the designs of examples/, and the statements in lines made at random too. Where `rt` is there, the program is
-# proved and built first.
+# Compares the tokens, the statements and the trees of lines that the program `parse_lines` reads with those that Python's
+# own tokenizer and parser read: in the designs of examples/, and in lines made at random. If the program isn't built, or
+# a source is newer than it, it is proved and built first.
 #
-# Where they differ, the lines that do are printed, and the exit status is 1, as where the program couldn't be built.
-# Where Python 3.10 or later isn't there, or the program isn't, nothing is compared, and the status is 0.
+# Lines that differ are printed, and the exit status is then 1, as it is if the program couldn't be built. Without Python
+# 3.10 or later, or with neither the program nor `rt`, nothing is compared, and the status is 0.
 set -u
 
 top=$(cd "$(dirname "$(readlink -f "$0")")/.." && pwd)
@@ -19,7 +19,13 @@ if ! python3 -c 'import sys; sys.exit(sys.version_info < (3, 10))' 2>/dev/null; 
     say "skipped: python3 isn't there, or is older than 3.10"
     exit 0
 fi
-if command -v rt >/dev/null && ! built=$(cd "$crate" && rt run -- data/queue.py 2>&1); then
+# Whether the program is there and older than no source.
+is_built() {
+    [ -x "$program" ] && [ -z "$(find "$top/crates" "$top/crates.txt" -name out -prune -o -type f \
+        \( -name '*.rt' -o -name '*.antt' -o -name crates.txt \) -newer "$program" -print -quit)" ]
+}
+
+if ! is_built && command -v rt >/dev/null && ! built=$(cd "$crate" && rt run -- data/queue.py 2>&1); then
     printf '%s\n' "$built" >&2
     say "the program couldn't be built: see above"
     exit 1
