@@ -8,7 +8,7 @@
 mod equality;
 mod fault;
 mod integer;
-mod laws;
+pub mod laws;
 mod range;
 mod reference;
 mod table;
