@@ -1,8 +1,7 @@
 -- A run goes on by one row, and ends.
-use Rattle.std.proofs.Common.{◌≡◌, ◌∙◌, ◌<◌, ◌≤◌, ◌+◌, ◌++◌, ℕ, Bool, false, List, [], ◌∷◌, length, take, drop, ap, sym, subst, append_assoc, append-nil, arith}
+use Rattle.std.proofs.Common.{◌≡◌, ◌∙◌, ◌<◌, ◌≤◌, ◌+◌, ◌++◌, ℕ, Bool, false, List, [], ◌∷◌, take, drop, ap, sym, subst, append_assoc, append-nil, arith}
 use Rattle.std.specs.Prelude.{Option, None, Some, nat_lt, if◌then◌else◌}
 use Rattle.std.proofs.lemmas.Bool.{lt-ltb}
-use Rattle.std.proofs.lemmas.List.{take-append-le, take_all}
 use Rattle.std.proofs.lemmas.Bool.Decides.{nat_tests}
 use Rattle.pm_bits.specs.Word.{Word}
 use Rattle.pm_io.specs.Known.{Grows, GrowsByFront, Empties}
@@ -10,10 +9,10 @@ use Rattle.pm_io.specs.Lines.{Line, lines_of}
 use Rattle.pm_io.specs.Reading.{ahead}
 use Rattle.pm_io.proofs.KnownBytes.{grows_on, grows_in_longer, grows_on_by_front}
 use Rattle.pm_job.specs.declared.component.Component.{Component}
-use Rattle.pm_job.specs.declared.simulate.TheConstants.{ROW_LIMIT}
-use Rattle.pm_job.specs.declared.simulate.Finish.{Finish}
-use Rattle.pm_job.specs.declared.simulate.Finish.TheVariants as finish
-use Rattle.pm_job.specs.declared.simulate.NextRow.TheVariants as next
+use Rattle.pm_job.specs.declared.row_reader.TheConstants.{ROW_LIMIT}
+use Rattle.pm_job.specs.declared.finish.Finish.{Finish}
+use Rattle.pm_job.specs.declared.finish.Finish.TheVariants as finish
+use Rattle.pm_job.specs.declared.row_reader.NextRow.TheVariants as next
 use Rattle.pm_job.specs.Answers.{Outcome, refused_at, with_reset}
 use Rattle.pm_job.specs.Input.{row_in, line_row, input_widths}
 use Rattle.pm_job.specs.Sound.{widths_of}
@@ -167,10 +166,3 @@ goes_empty component start values row widths count buffered buffered' (Some text
 -- the row keeps the value of `reset`
 pub begins_kept : (old new : List Word) → old ≡ with_reset 0 (drop 1 old) → new ≡ take 1 old ++ drop 1 new → new ≡ with_reset 0 (drop 1 new)
 begins_kept old new begins kept = kept ∙ ap (λ (row : List Word). take 1 row ++ drop 1 new) begins
-
--- a slice that was lent and written stands in its `Vec` again
-pub written_back : (new old : List Word) (len : ℕ) → length new ≡ len → take len (new ++ drop (length new) old) ≡ new
-written_back new old len is =
-    let whole : take (length new) (new ++ drop (length new) old) ≡ new =
-    take-append-le (length new) new (drop (length new) old) (omega arith) ∙ take_all (length new) new (omega arith) in
-    subst (λ (n : ℕ). take n (new ++ drop (length new) old) ≡ new) is whole

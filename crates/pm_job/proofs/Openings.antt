@@ -12,18 +12,18 @@ use Rattle.pm_io.specs.declared.sink.Put.{Put}
 use Rattle.pm_io.specs.declared.sink.Put.TheVariants as put
 use Rattle.pm_io.proofs.KnownBytes.{grows_on, grows_in_longer, grows_on_by_front}
 use Rattle.pm_job.specs.declared.component.Component.{Component}
-use Rattle.pm_job.specs.declared.simulate.Finish.{Finish}
-use Rattle.pm_job.specs.declared.simulate.Finish.TheVariants as finish
-use Rattle.pm_job.specs.declared.simulate.HeaderGot.{HeaderGot}
-use Rattle.pm_job.specs.declared.simulate.HeaderGot.TheVariants as header
+use Rattle.pm_job.specs.declared.finish.Finish.{Finish}
+use Rattle.pm_job.specs.declared.finish.Finish.TheVariants as finish
+use Rattle.pm_job.specs.declared.row_reader.HeaderGot.{HeaderGot}
+use Rattle.pm_job.specs.declared.row_reader.HeaderGot.TheVariants as header
 use Rattle.pm_job.proofs.BlocksAt.{header_of-arranged}
-use Rattle.pm_job.specs.Answers.{Outcome, refused_at, zeros_of, reset_row}
+use Rattle.pm_job.specs.Answers.{Outcome, refused_at, with_reset, zeros_of, reset_row}
 use Rattle.pm_job.specs.Input.{is_header, is_short, input_widths}
 use Rattle.pm_job.specs.Vectors.{header_of}
 use Rattle.pm_job.specs.Sound.{widths_of}
 use Rattle.pm_job.specs.Trace.{inputs_of, initial_values, head_text, row_text}
 use Rattle.pm_job.specs.Values.{value_widths}
-use Rattle.pm_job.specs.Progress.{HasNoHeader, arranged, IsReady, Fits, first_values, second_values, opening_text, after, follow, opened, simulated, GivesHeader, Ends, EndsRows, EndsRun}
+use Rattle.pm_job.specs.Progress.{HasNoHeader, arranged, IsReady, IsOpened, Fits, first_values, second_values, opening_text, after, follow, opened, simulated, GivesHeader, Ends, EndsRows, EndsRun}
 
 -- the widths of zeros
 widths-zeros : (widths : List ℕ) → value_widths (zeros_of widths) ≡ widths
@@ -63,6 +63,19 @@ opening_at_second component first second old mid late new result is also head on
     (puts_on mid late new (row_text component 0 (first_values component)) (row_text component 1 (second_values component)) result
     (subst (λ (vs : List Word). Grows mid late (row_text component 0 vs)) is one)
     (subst (λ (vs : List Word). Puts late new (row_text component 1 vs) result) also two))
+
+-- the cycles of reset have run, and `reset` is 0 now
+pub is_opened : (component : Component) (values row row' : List Word) (waiting : List ℕ) → values ≡ second_values component → row ≡ reset_row component
+    → Fits component values row → row' ≡ with_reset 0 (drop 1 row) → waiting ≡ [] → IsOpened component values row' waiting
+is_opened component values row row' waiting settled reset fits is none = record {
+  settled = settled;
+  inputs = is ∙ ap (with_reset 0) (sym (ap (drop 1) is));
+  fits = record {
+    each_signal = fits.each_signal;
+    each_input = ap value_widths (is ∙ ap (λ (r : List Word). with_reset 0 (drop 1 r)) reset) ∙ (ap value_widths (sym reset) ∙ fits.each_input);
+  };
+  none = none;
+}
 
 -- an outcome with a text before it
 ends_after : (text : List ℕ) (outcome : Outcome) (old mid new : Option (List ℕ)) (answer : Finish) → Grows old mid text → Ends outcome mid new answer → Ends (after text outcome) old new answer

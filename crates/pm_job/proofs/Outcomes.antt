@@ -11,8 +11,8 @@ use Rattle.pm_io.specs.declared.sink.Put.{Put}
 use Rattle.pm_io.specs.declared.sink.Put.TheVariants as put
 use Rattle.pm_job.specs.declared.component.Component.{Component}
 use Rattle.pm_job.specs.declared.form.TheConstants.{MAX_TEXT}
-use Rattle.pm_job.specs.declared.simulate.Finish.{Finish}
-use Rattle.pm_job.specs.declared.simulate.Finish.TheVariants as finish
+use Rattle.pm_job.specs.declared.finish.Finish.{Finish}
+use Rattle.pm_job.specs.declared.finish.Finish.TheVariants as finish
 use Rattle.pm_job.specs.declared.status.Status.TheVariants as status
 use Rattle.pm_job.specs.Answers.{Outcome, refused_at, SimulatesIn, SimulatesWith, Ending, Says, Shows, IsCutShort, IsMessageOf, Answers, whole_ending, fault_line, refusal_line}
 use Rattle.pm_job.specs.CommandLine.{Target}

@@ -2,8 +2,8 @@
 use Rattle.std.specs.Prelude.{ℕ, List, [], Option, None, Some}
 use Rattle.pm_io.specs.Stores.{Files, MayHold, told_among}
 use Rattle.pm_job.specs.declared.component.Component.{Component}
-use Rattle.pm_job.specs.declared.simulate.Finish.{Finish}
-use Rattle.pm_job.specs.declared.simulate.Finish.TheVariants as finish
+use Rattle.pm_job.specs.declared.finish.Finish.{Finish}
+use Rattle.pm_job.specs.declared.finish.Finish.TheVariants as finish
 use Rattle.pm_job.specs.declared.status.Status.{Status}
 use Rattle.pm_job.specs.declared.status.Status.TheVariants as status
 use Rattle.pm_job.specs.Answers.{Outcome, SimulatesIn, fault_line, refusal_line}

@@ -8,12 +8,12 @@ use Rattle.pm_io.specs.Lines.{Line, lines_of}
 use Rattle.pm_job.specs.declared.component.Component.{Component}
 use Rattle.pm_job.specs.declared.component.Assignment.{Assignment}
 use Rattle.pm_job.specs.declared.schedule.Schedule.{Schedule}
-use Rattle.pm_job.specs.declared.simulate.Finish.{Finish}
-use Rattle.pm_job.specs.declared.simulate.Finish.TheVariants as finish
-use Rattle.pm_job.specs.declared.simulate.HeaderGot.{HeaderGot}
-use Rattle.pm_job.specs.declared.simulate.HeaderGot.TheVariants as header
-use Rattle.pm_job.specs.declared.simulate.NextRow.{NextRow}
-use Rattle.pm_job.specs.declared.simulate.NextRow.TheVariants as next
+use Rattle.pm_job.specs.declared.finish.Finish.{Finish}
+use Rattle.pm_job.specs.declared.finish.Finish.TheVariants as finish
+use Rattle.pm_job.specs.declared.row_reader.HeaderGot.{HeaderGot}
+use Rattle.pm_job.specs.declared.row_reader.HeaderGot.TheVariants as header
+use Rattle.pm_job.specs.declared.row_reader.NextRow.{NextRow}
+use Rattle.pm_job.specs.declared.row_reader.NextRow.TheVariants as next
 use Rattle.pm_job.specs.Form.{reset, targets_differ}
 use Rattle.pm_job.specs.Precedence.{blocks_at}
 use Rattle.pm_job.specs.Reads.{is_ordered}

@@ -7,22 +7,26 @@
 //! - `command_line` reads the words;
 //! - `form`, with its parts, reads a component of the narrow form, and `vectors` the header and the rows of the input;
 //! - `order` orders the update blocks or finds a loop, and a `schedule` is a component with such an order;
-//! - `inputs` and `settle` run a cycle;
+//! - `row_reader` reads the input line by line;
+//! - `initial` has the values before the first cycle, and `inputs` and `settle` run a cycle;
 //! - `trace_text` and `message` write;
-//! - `simulate` joins them, and `top` is the call.
+//! - `simulate` joins them, `finish` says how it ended, and `top` is the call.
 //!
 //! `laws` says what is true of the values of a cycle and of the narrow form.
 #![tactic(auto)]
 
 mod command_line;
 mod component;
+mod finish;
 mod form;
 mod form_lines;
 mod form_parts;
+mod initial;
 mod inputs;
 pub mod laws;
 mod message;
 mod order;
+mod row_reader;
 mod schedule;
 mod settle;
 mod simulate;

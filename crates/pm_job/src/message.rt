@@ -6,9 +6,9 @@ ghost use Rattle.pm_io.specs.Streams.{Puts};
 ghost use Rattle.pm_job.specs.Answers.{refusal_line, usage_line};
 ghost use Rattle.pm_job.specs.Endings.{message_of};
 
-use crate::simulate::Finish;
+use crate::finish::Finish;
 use itoa::Buffer;
-use pm_io::{LF, Put, Sink, WriteBuffer, put_all};
+use pm_io::{LF, Put, Sink, WriteBuffer, put_all, try_put};
 
 /// Prints the usage line.
 pub fn say_usage<E: Sink>(errors: &mut E) -> Put
@@ -41,10 +41,8 @@ fn say_refusal<E: Sink>(line: u64, errors: &mut E) -> Put
     ensures cause { HasCause (E.faults errors.old) (E.faults errors.new) (result ≡ Put.Failed) }
 {
     let mut buffer = WriteBuffer::new();
-    match queue_refusal(line, &mut buffer, errors) {
-        Put::All => buffer.flush(errors),
-        Put::Failed => Put::Failed,
-    }
+    try_put!(queue_refusal(line, &mut buffer, errors));
+    buffer.flush(errors)
 }
 
 fn queue_refusal<E: Sink>(line: u64, buffer: &mut WriteBuffer, errors: &mut E) -> Put
@@ -52,11 +50,7 @@ fn queue_refusal<E: Sink>(line: u64, buffer: &mut WriteBuffer, errors: &mut E) -
     ensures cause { HasCause (E.faults errors.old) (E.faults errors.new) (result ≡ Put.Failed) }
 {
     let mut digits = Buffer::new();
-    match buffer.put(errors, b"pymtl: 99 NotBuilt line ") {
-        Put::Failed => Put::Failed,
-        Put::All => match buffer.put(errors, digits.format(line).as_bytes()) {
-            Put::Failed => Put::Failed,
-            Put::All => buffer.put(errors, &[LF]),
-        },
-    }
+    try_put!(buffer.put(errors, b"pymtl: 99 NotBuilt line "));
+    try_put!(buffer.put(errors, digits.format(line).as_bytes()));
+    buffer.put(errors, &[LF])
 }

@@ -47,12 +47,7 @@ fn first_free(blocks: &[Assignment], left: &[usize]) -> Option<usize>
 fn is_free(blocks: &[Assignment], indices: &[usize], index: usize) -> bool
     ensures { result ≡ spec_is_free blocks.now indices.now index }
 {
-    for other in indices {
-        if precedes(blocks, *other, index) {
-            return false;
-        }
-    }
-    true
+    !indices.iter().any(|other| precedes(blocks, *other, index))
 }
 
 // Whether the first block assigns what the second one reads, and they are different blocks.

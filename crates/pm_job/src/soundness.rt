@@ -115,12 +115,7 @@ fn is_typed(component: &Component) -> bool
 fn have_widths(signals: &[Signal]) -> bool
     ensures { result ≡ list_all sound.is_width (sound.widths_of signals.now) }
 {
-    for signal in signals {
-        if !is_width(signal.width) {
-            return false;
-        }
-    }
-    true
+    signals.iter().all(|signal| is_width(signal.width))
 }
 
 fn is_width(width: u32) -> bool

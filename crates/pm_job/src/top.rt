@@ -5,17 +5,18 @@ ghost use Rattle.pm_io.specs.Causes.{HasCause, Rose};
 ghost use Rattle.pm_io.specs.Known.{Empties};
 ghost use Rattle.pm_job.specs.Answers.{Answers, HasReadCause, IsMessageOf, Says, Shows};
 ghost use Rattle.pm_job.specs.CommandLine.{job_of as spec_job_of, target_now};
-ghost use Rattle.pm_job.specs.Endings.{EndsAs, EndsTarget, status_of};
+ghost use Rattle.pm_job.specs.Endings.{EndsAs, EndsTarget};
 ghost use Rattle.pm_job.specs.Form.{component_of};
 ghost use Rattle.pm_job.specs.Progress.{IsRead};
 
 use crate::command_line::{Target, job_of};
 use crate::component::Component;
+use crate::finish::Finish;
 use crate::form::{MAX_TEXT, read_component};
 use crate::message::{say, say_usage};
 use crate::order::order_of;
 use crate::schedule::Schedule;
-use crate::simulate::{Finish, simulate};
+use crate::simulate::simulate;
 use crate::status::Status;
 use pm_io::{Gate, Loaded, Sink, Source, Store};
 use std::alloc::Global;
@@ -147,23 +148,5 @@ fn simulate_component<I: Source, O: Sink>(
             simulate(alloc, &schedule, input, output)
         }
         None => Finish::Refused(1),
-    }
-}
-
-impl Finish {
-    ghost use Rattle.std.specs.Prelude.{◌≡◌};
-    ghost use Rattle.pm_job.specs.Endings.{status_of};
-
-    /// The status that the program ends with.
-    fn status(self) -> Status
-        ensures { result ≡ status_of self }
-    {
-        match self {
-            Finish::Done => Status::Done,
-            Finish::Refused(_) => Status::Refused,
-            Finish::ReadFault => Status::ReadFault,
-            Finish::WriteFault => Status::WriteFault,
-            Finish::NoMemory => Status::NoMemory,
-        }
     }
 }

@@ -9,7 +9,7 @@ use crate::component::Component;
 use itoa::Buffer;
 use pm_bits::Bits;
 use pm_design::{Role, Signal};
-use pm_io::{LF, Put, Sink, WriteBuffer};
+use pm_io::{LF, Put, Sink, WriteBuffer, try_put};
 
 /// The byte between the fields of a line.
 pub const BLANK: u8 = b' ';
@@ -24,10 +24,8 @@ pub fn write_head<K: Sink>(component: &Component, buffer: &mut WriteBuffer, sink
     ensures empty { result ≡ Put.All → buffer.new ≡ [] }
     ensures cause { HasCause (K.faults sink.old) (K.faults sink.new) (result ≡ Put.Failed) }
 {
-    match queue_head(component, buffer, sink) {
-        Put::All => buffer.flush(sink),
-        Put::Failed => Put::Failed,
-    }
+    try_put!(queue_head(component, buffer, sink));
+    buffer.flush(sink)
 }
 
 /// Writes the line of a cycle. The buffer is empty before, and afterwards unless the write failed.
@@ -44,23 +42,17 @@ pub fn write_row<K: Sink>(
     ensures empty { result ≡ Put.All → buffer.new ≡ [] }
     ensures cause { HasCause (K.faults sink.old) (K.faults sink.new) (result ≡ Put.Failed) }
 {
-    match queue_row(component, cycle, values, buffer, sink) {
-        Put::All => buffer.flush(sink),
-        Put::Failed => Put::Failed,
-    }
+    try_put!(queue_row(component, cycle, values, buffer, sink));
+    buffer.flush(sink)
 }
 
 fn queue_head<K: Sink>(component: &Component, buffer: &mut WriteBuffer, sink: &mut K) -> Put
     ensures text { Queues (K.held sink.old) (K.held sink.new) buffer.old buffer.new (head_text component.now) result }
     ensures cause { HasCause (K.faults sink.old) (K.faults sink.new) (result ≡ Put.Failed) }
 {
-    match buffer.put(sink, b"cycle") {
-        Put::Failed => Put::Failed,
-        Put::All => match queue_names(component.signals.as_slice(), buffer, sink) {
-            Put::Failed => Put::Failed,
-            Put::All => buffer.put(sink, &[LF]),
-        },
-    }
+    try_put!(buffer.put(sink, b"cycle"));
+    try_put!(queue_names(component.signals.as_slice(), buffer, sink));
+    buffer.put(sink, &[LF])
 }
 
 fn queue_row<K: Sink>(
@@ -75,13 +67,9 @@ fn queue_row<K: Sink>(
     ensures cause { HasCause (K.faults sink.old) (K.faults sink.new) (result ≡ Put.Failed) }
 {
     let mut digits = Buffer::new();
-    match buffer.put(sink, digits.format(cycle).as_bytes()) {
-        Put::Failed => Put::Failed,
-        Put::All => match queue_values(component.signals.as_slice(), values, buffer, sink) {
-            Put::Failed => Put::Failed,
-            Put::All => buffer.put(sink, &[LF]),
-        },
-    }
+    try_put!(buffer.put(sink, digits.format(cycle).as_bytes()));
+    try_put!(queue_values(component.signals.as_slice(), values, buffer, sink));
+    buffer.put(sink, &[LF])
 }
 
 fn queue_names<K: Sink>(signals: &[Signal], buffer: &mut WriteBuffer, sink: &mut K) -> Put
@@ -89,10 +77,7 @@ fn queue_names<K: Sink>(signals: &[Signal], buffer: &mut WriteBuffer, sink: &mut
     ensures cause { HasCause (K.faults sink.old) (K.faults sink.new) (result ≡ Put.Failed) }
 {
     for signal in signals {
-        match queue_name(signal, buffer, sink) {
-            Put::Failed => return Put::Failed,
-            Put::All => {}
-        }
+        try_put!(queue_name(signal, buffer, sink));
     }
     Put::All
 }
@@ -105,10 +90,8 @@ fn queue_name<K: Sink>(signal: &Signal, buffer: &mut WriteBuffer, sink: &mut K) 
     if !is_port(signal.role) {
         return Put::All;
     }
-    match buffer.put(sink, &[BLANK]) {
-        Put::Failed => Put::Failed,
-        Put::All => buffer.put(sink, signal.name.as_slice()),
-    }
+    try_put!(buffer.put(sink, &[BLANK]));
+    buffer.put(sink, signal.name.as_slice())
 }
 
 fn queue_values<K: Sink>(
@@ -122,10 +105,7 @@ fn queue_values<K: Sink>(
     ensures cause { HasCause (K.faults sink.old) (K.faults sink.new) (result ≡ Put.Failed) }
 {
     for (index, signal) in signals.iter().enumerate() {
-        match queue_value(signal, values[index], buffer, sink) {
-            Put::Failed => return Put::Failed,
-            Put::All => {}
-        }
+        try_put!(queue_value(signal, values[index], buffer, sink));
     }
     Put::All
 }
@@ -138,10 +118,8 @@ fn queue_value<K: Sink>(signal: &Signal, value: Bits, buffer: &mut WriteBuffer, 
     if !is_port(signal.role) {
         return Put::All;
     }
-    match buffer.put(sink, &[BLANK]) {
-        Put::Failed => Put::Failed,
-        Put::All => queue_hex(value.width().div_ceil(4), value.value(), buffer, sink),
-    }
+    try_put!(buffer.put(sink, &[BLANK]));
+    queue_hex(value.width().div_ceil(4), value.value(), buffer, sink)
 }
 
 // The given number of low hexadecimal digits of a number.
@@ -154,10 +132,7 @@ fn queue_hex<K: Sink>(count: u32, number: u128, buffer: &mut WriteBuffer, sink: 
     while left > 0 {
         left -= 1;
         let digit = (number >> (4 * left)) % 16;
-        match buffer.put(sink, &[HEX_DIGITS[digit as usize]]) {
-            Put::Failed => return Put::Failed,
-            Put::All => {}
-        }
+        try_put!(buffer.put(sink, &[HEX_DIGITS[digit as usize]]));
     }
     Put::All
 }

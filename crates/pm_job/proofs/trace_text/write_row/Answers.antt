@@ -1,8 +1,9 @@
+use Rattle.std.proofs.Common.{rules}
 use Rattle.pm_io.proofs.Waiting.{puts_by_flush}
 use Rattle.pm_job.specs.Trace.{row_text}
 use Rattle.pm_job.proofs.trace_text.write_row.Goals as goal
 
-pub returns-in-All-clause-text : goal.returns-in-All-clause-text
-returns-in-All-clause-text g c =
+pub returns-2-clause-text : goal.returns-2-clause-text
+returns-2-clause-text g c =
     puts_by_flush (g.K.Sink.held c.args.sink.now) (g.K.Sink.held c.queue_row.new.sink) (g.K.Sink.held c.flush.new.sink) c.args.buffer.now c.queue_row.new.buffer c.flush.new.self
-    (row_text c.args.component.now c.args.cycle c.args.values.now) c.flush.result c.requires.empty c.in-All.ensures.text c.flush.ensures.bytes
+    (row_text c.args.component.now c.args.cycle c.args.values.now) c.flush.result c.requires.empty (search rules) c.flush.ensures.bytes

@@ -3,8 +3,8 @@ use Rattle.pm_job.specs.Answers.{with_reset, zeros_of}
 use Rattle.pm_job.specs.Sound.{widths_of}
 use Rattle.pm_job.specs.Trace.{inputs_of, is_input}
 use Rattle.pm_job.proofs.Zeros.{wide_from, resets_input, resets_other}
-use Rattle.pm_job.proofs.simulate.reset_values.Goals.{then-is_input+in_ok-push-2, else-is_input}
-use Rattle.pm_job.proofs.simulate.reset_values.Goals as goal
+use Rattle.pm_job.proofs.initial.reset_values.Goals.{then-is_input+in_ok-push-2, else-is_input}
+use Rattle.pm_job.proofs.initial.reset_values.Goals as goal
 
 pub zero-requires : goal.zero-requires
 zero-requires c =

@@ -3,7 +3,7 @@ use Rattle.std.specs.List.{list_all}
 use Rattle.pm_job.specs.Answers.{with_reset, zeros_of}
 use Rattle.pm_job.specs.Sound.{is_width, widths_of}
 use Rattle.pm_job.specs.Trace.{inputs_of}
-use Rattle.pm_job.proofs.simulate.reset_values.Given as goal
+use Rattle.pm_job.proofs.initial.reset_values.Given as goal
 
 -- the values so far and those of the inputs that are left make the row
 abbrev pub invariant-loop-index : goal.invariant-loop-index

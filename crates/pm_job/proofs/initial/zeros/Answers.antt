@@ -1,5 +1,5 @@
 use Rattle.pm_job.proofs.Zeros.{wide_from, zeros_more}
-use Rattle.pm_job.proofs.simulate.zeros.Goals as goal
+use Rattle.pm_job.proofs.initial.zeros.Goals as goal
 
 pub zero-requires : goal.zero-requires
 zero-requires c =
