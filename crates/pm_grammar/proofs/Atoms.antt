@@ -23,19 +23,19 @@ pub leaf_name : (token : Token) (text : List ℕ) → text ≡ token.text → Is
 leaf_name token text same is = subst (λ (one : List ℕ). SpellsLeaf token (leaf.Name one)) (sym same) (SpellsLeaf.named is)
 
 -- a name is no other token
-pub only_name : (token : Token) (text : List ℕ) → text ≡ token.text → IsTrue (is_name token) → (e : Expr) → SpellsLeaf token e → ◌≡◌ {A = Option Expr} (Some (leaf.Name text)) (Some e)
-only_name token text same is _ (SpellsLeaf.named is') = ap (λ (one : List ℕ). Some (leaf.Name one)) same
+pub only_name : (token : Token) (text : List ℕ) → text ≡ token.text → IsTrue (is_name token) → (e : Expr) → SpellsLeaf token e → e ≡ leaf.Name text
+only_name token text same is _ (SpellsLeaf.named is') = ap (λ (one : List ℕ). leaf.Name one) (sym same)
 only_name token text same is _ (SpellsLeaf.number value is') = let named = name_is token is in cc
 only_name token text same is _ (SpellsLeaf.true_word is') = let no = no_name_of_word (codes "True") token true_is_keyword is' in absurd (false≢true (sym no ∙ is))
 only_name token text same is _ (SpellsLeaf.false_word is') = let no = no_name_of_word (codes "False") token false_is_keyword is' in absurd (false≢true (sym no ∙ is))
 
-pub only_true : (token : Token) → IsTrue (is_word (codes "True") token) → (e : Expr) → SpellsLeaf token e → ◌≡◌ {A = Option Expr} (Some (leaf.Bool true)) (Some e)
+pub only_true : (token : Token) → IsTrue (is_word (codes "True") token) → (e : Expr) → SpellsLeaf token e → e ≡ leaf.Bool true
 only_true token is _ (SpellsLeaf.named is') = let no = no_name_of_word (codes "True") token true_is_keyword is in absurd (false≢true (sym no ∙ is'))
 only_true token is _ (SpellsLeaf.number value is') = let named = of_word (codes "True") token (λ (t : Token). t.kind) kind.Name is refl in cc
 only_true token is _ (SpellsLeaf.true_word is') = refl
 only_true token is _ (SpellsLeaf.false_word is') = let no : is_word (codes "True") token ≡ false = of_word (codes "False") token (is_word (codes "True")) false is' refl in absurd (false≢true (sym no ∙ is))
 
-pub only_false : (token : Token) → IsTrue (is_word (codes "False") token) → (e : Expr) → SpellsLeaf token e → ◌≡◌ {A = Option Expr} (Some (leaf.Bool false)) (Some e)
+pub only_false : (token : Token) → IsTrue (is_word (codes "False") token) → (e : Expr) → SpellsLeaf token e → e ≡ leaf.Bool false
 only_false token is _ (SpellsLeaf.named is') = let no = no_name_of_word (codes "False") token false_is_keyword is in absurd (false≢true (sym no ∙ is'))
 only_false token is _ (SpellsLeaf.number value is') = let named = of_word (codes "False") token (λ (t : Token). t.kind) kind.Name is refl in cc
 only_false token is _ (SpellsLeaf.true_word is') = let no : is_word (codes "False") token ≡ false = of_word (codes "True") token (is_word (codes "False")) false is' refl in absurd (false≢true (sym no ∙ is))
@@ -48,11 +48,11 @@ leaf_kind token _ (SpellsLeaf.number value is) = inr (value, is)
 leaf_kind token _ (SpellsLeaf.true_word is) = inl (of_word (codes "True") token (λ (t : Token). t.kind) kind.Name is refl)
 leaf_kind token _ (SpellsLeaf.false_word is) = inl (of_word (codes "False") token (λ (t : Token). t.kind) kind.Name is refl)
 
-pub only_int : (token : Token) (value : ℕ) → token.kind ≡ kind.Int value → (e : Expr) → SpellsLeaf token e → ◌≡◌ {A = Option Expr} (Some (leaf.Int value)) (Some e)
+pub only_int : (token : Token) (value : ℕ) → token.kind ≡ kind.Int value → (e : Expr) → SpellsLeaf token e → e ≡ leaf.Int value
 only_int token value at _ (SpellsLeaf.named is) = let named = name_is token is in cc
 only_int token value at _ (SpellsLeaf.number other is) =
-    let same : value ≡ other = cc in
-    ap (λ (one : ℕ). Some (leaf.Int one)) same
+    let same : other ≡ value = cc in
+    ap (λ (one : ℕ). leaf.Int one) same
 only_int token value at _ (SpellsLeaf.true_word is) = let named = of_word (codes "True") token (λ (t : Token). t.kind) kind.Name is refl in cc
 only_int token value at _ (SpellsLeaf.false_word is) = let named = of_word (codes "False") token (λ (t : Token). t.kind) kind.Name is refl in cc
 
@@ -176,28 +176,23 @@ atom_of_list all tokens read behind only e left begins ends = elim (atom_begins 
   | inr (inr list) ↦ only e left list.1
 ]
 
-atom_of_leaf : (all rest : List Token) (first : Token) (o : Option Expr) → all ≡ first ∷ rest → IsNotFirst (is_symbol (codes "(")) all → IsNotFirst (is_symbol (codes "[")) all
-    → ((e : Expr) → SpellsLeaf first e → o ≡ Some e) → (e : Expr) (left : List Token) → Begins (Spells level.Atom) all e left → (o ≡ Some e) × (rest ≡ left)
-atom_of_leaf all rest first o is no_group no_list only e left begins = elim (atom_begins all rest left first e is begins) [
-  | inl one ↦ (only e one.0, one.1)
+atom_of_leaf : (all rest : List Token) (first : Token) → all ≡ first ∷ rest → IsNotFirst (is_symbol (codes "(")) all → IsNotFirst (is_symbol (codes "[")) all
+    → (e : Expr) (left : List Token) → Begins (Spells level.Atom) all e left → SpellsLeaf first e × (rest ≡ left)
+atom_of_leaf all rest first is no_group no_list e left begins = elim (atom_begins all rest left first e is begins) [
+  | inl one ↦ one
   | inr (inl group) ↦ absurd (not_there (is_symbol (codes "(")) all rest first no_group is group.0)
   | inr (inr list) ↦ absurd (not_there (is_symbol (codes "[")) all rest first no_list is list.0)
 ]
 
 pub only_leaf : (all rest : List Token) (first : Token) (a : Expr) → all ≡ first ∷ rest → IsNotFirst (is_symbol (codes "(")) all → IsNotFirst (is_symbol (codes "[")) all
-    → ((e : Expr) → SpellsLeaf first e → ◌≡◌ {A = Option Expr} (Some a) (Some e)) → IsOnly level.Atom all (Some (a, rest))
+    → ((e : Expr) → SpellsLeaf first e → e ≡ a) → IsOnly level.Atom all (Some (a, rest))
 only_leaf all rest first a is no_group no_list only e left begins ends =
-    let found = atom_of_leaf all rest first (Some a) is no_group no_list only e left begins in
-    let same = found.0 in
-    let one : e ≡ a = cc in
-    (one, sym found.1)
+    let found = atom_of_leaf all rest first is no_group no_list e left begins in
+    (only e found.0, sym found.1)
 
 pub no_atom_there : (all rest : List Token) (first : Token) → all ≡ first ∷ rest → IsNotFirst (is_symbol (codes "(")) all → IsNotFirst (is_symbol (codes "[")) all
-    → ((e : Expr) → SpellsLeaf first e → ◌≡◌ {A = Option Expr} None (Some e)) → IsOnly level.Atom all None
-no_atom_there all rest first is no_group no_list only e left begins ends =
-    let found = atom_of_leaf all rest first None is no_group no_list only e left begins in
-    let same = found.0 in
-    cc
+    → ((e : Expr) → SpellsLeaf first e → ⊥) → IsOnly level.Atom all None
+no_atom_there all rest first is no_group no_list never e left begins ends = never e (atom_of_leaf all rest first is no_group no_list e left begins).0
 
 -- no atom of no tokens
 pub no_tokens : (all : List Token) → all ≡ [] → IsOnly level.Atom all None

@@ -1,15 +1,15 @@
 -- What is read of the arguments of a call.
-use Rattle.std.proofs.Common.{◌≡◌, ◌⊎◌, ◌∷◌, ◌++◌, ℕ, true, false, IsTrue, List, [], codes, append_assoc, append-nil, refl, sym, ap, subst, inl, inr, ◌∙◌}
+use Rattle.std.proofs.Common.{◌≡◌, ◌⊎◌, ◌≤◌, ◌∷◌, ◌++◌, ℕ, true, false, IsTrue, List, [], codes, append_assoc, append-nil, arith, length, refl, sym, ap, subst, inl, inr, ◌∙◌}
 use Rattle.std.specs.Prelude.{Option, Some, None}
 use Rattle.std.proofs.lemmas.Bool.{false≢true, or_left, or_right}
 use Rattle.pm_syn.specs.declared.expression.Arg.{Arg}
 use Rattle.pm_syn.specs.declared.expression.Expr.{Expr}
 use Rattle.pm_syn.specs.declared.token.Token.{Token}
-use Rattle.pm_grammar.specs.Brackets.{IsNoParameter, IsOnlyArgument, IsParameter, SpellsMore, ends_argument}
+use Rattle.pm_grammar.specs.Brackets.{IsNoParameter, IsParameter, OpensArgument, SpellsMore, ends_argument}
 use Rattle.pm_grammar.specs.Expressions.{Spells, SpellsArgument, SpellsArgumentSequence, SpellsArguments}
 use Rattle.pm_grammar.specs.Prefixes.{IsAfter, IsNotFirst, begins_with}
 use Rattle.pm_grammar.specs.Tokens.{is_symbol, is_name}
-use Rattle.pm_grammar.specs.Reading.{Begins, IsOnly, IsOnlyBefore, IsRead}
+use Rattle.pm_grammar.specs.Reading.{Begins, IsOnly, IsOnlyBefore, IsOnlyUpTo, IsRead}
 use Rattle.pm_grammar.specs.declared.level.Level.TheVariants as level
 use Rattle.pm_grammar.proofs.ArgumentNames.{argument_begun, no_equals}
 use Rattle.pm_grammar.proofs.ExpressionStarts.{opens, parenthesis_opens}
@@ -18,9 +18,11 @@ use Rattle.pm_grammar.proofs.OperandStarts.{IsBegun, begun_expression}
 use Rattle.pm_grammar.proofs.Parts.{not_begun, front_closed}
 use Rattle.pm_grammar.proofs.Sequences.{SpellsFrom, arguments_are, more_done, more_first, more_on}
 
--- ---- the name of a parameter
-
 -- ---- an argument
+
+-- each argument that a comma or a closing parenthesis follows was read
+abbrev pub IsOnlyArgument : List Token → Option (Arg × List Token) → Type 0
+IsOnlyArgument = IsOnlyUpTo SpellsArgument ends_argument
 
 -- an argument without a name, or with one
 record NamedReads (tokens : List Token) (a : Arg) (left : List Token) : Type 0 where
@@ -111,6 +113,31 @@ only_named tokens tail rest name text e parameter text_is only a behind left end
       let word : named.name.text ≡ text = ap (λ (t : Token). t.text) one ∙ sym text_is in
       (same_named a named.name.text text named.e e named.made word was.0, was.1)
 ]
+
+-- ---- an argument by what opens it
+
+pub argument_found : (tokens tail rest : List Token) (name : Option (List ℕ)) (e : Expr) → OpensArgument tokens name tail → Begins (Spells level.Conditional) tail e rest
+    → Begins SpellsArgument tokens (record { name = name; value = e }) rest
+argument_found _ _ rest _ e (OpensArgument.plain tokens apart) begins = plain_found tokens rest e begins
+argument_found _ _ rest _ e (OpensArgument.named tokens tail name parameter) begins = named_found tokens tail rest name name.text e parameter refl begins
+
+pub only_argument : (tokens tail rest : List Token) (name : Option (List ℕ)) (e : Expr) → OpensArgument tokens name tail → IsOnly level.Conditional tail (Some (e, rest))
+    → IsOnlyArgument tokens (Some (record { name = name; value = e }, rest))
+only_argument _ _ rest _ e (OpensArgument.plain tokens apart) only = only_plain tokens rest e apart only
+only_argument _ _ rest _ e (OpensArgument.named tokens tail name parameter) only = only_named tokens tail rest name name.text e parameter refl only
+
+pub no_value_opened : (tokens tail : List Token) (name : Option (List ℕ)) → OpensArgument tokens name tail → IsOnly level.Conditional tail None → IsOnlyArgument tokens None
+no_value_opened _ _ _ (OpensArgument.plain tokens apart) only = no_plain tokens apart only
+no_value_opened _ _ _ (OpensArgument.named tokens tail name parameter) only = no_named tokens tail name parameter only
+
+pub opened_no_longer : (tokens tail : List Token) (name : Option (List ℕ)) → OpensArgument tokens name tail → length tail ≤ length tokens
+opened_no_longer _ _ _ (OpensArgument.plain tokens apart) = omega arith
+opened_no_longer _ _ _ (OpensArgument.named tokens tail name parameter) =
+    let long : length tokens ≡ length (name ∷ parameter.0 ∷ tail) = ap length parameter.1 in
+    omega (arith, long)
+
+pub opened_named : (tokens tail : List Token) (name : Token) (text : List ℕ) → IsParameter tokens name tail → text ≡ name.text → OpensArgument tokens (Some text) tail
+opened_named tokens tail name text parameter same = rw same (OpensArgument.named tokens tail name parameter)
 
 -- ---- arguments
 

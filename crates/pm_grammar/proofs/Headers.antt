@@ -2,7 +2,6 @@
 use Rattle.std.proofs.Common.{◌≡◌, ◌∙◌, ◌⊎◌, ◌∷◌, ◌++◌, ◌==◌, ℕ, Bool, true, false, IsTrue, List, [], length, arith, codes, Option, Some, None, refl, sym, ap, subst, inl, inr}
 use Rattle.std.proofs.lemmas.Bool.{both_ways, false≢true}
 use Rattle.std.proofs.lemmas.Bool.Decides.{nat_tests}
-use Rattle.std.proofs.lemmas.Option.{none-some, same_Some, some_pair_parts}
 use Rattle.std.specs.Borrow.{Bor}
 use Rattle.std.specs.Option.{MatchOption}
 use Rattle.pm_syn.specs.declared.expression.Expr.{Expr}
@@ -15,7 +14,7 @@ use Rattle.pm_grammar.specs.Prefixes.{IsAfter, IsNotFirst, begins_with}
 use Rattle.pm_grammar.specs.Headers.{IsCondition, IsGuard, OpensGuard, SpellsBase, SpellsBranch, SpellsClass, SpellsDecorator, SpellsFor, based, elif_branch, else_branch, for_range, guard, if_branch, is_lone, mark, opened, simple_branch, with_base, without_base}
 use Rattle.pm_syn.specs.Names.{is_keyword}
 use Rattle.pm_grammar.specs.Tokens.{is_symbol, is_name, is_word}
-use Rattle.pm_grammar.specs.Reading.{Begins, IsOnly, IsOnlyBefore, IsRead}
+use Rattle.pm_grammar.specs.Reading.{Begins, IsOnly, IsOnlyBefore, IsOnlyBeginning, IsRead}
 use Rattle.pm_grammar.specs.Statements.{IsExpression, SpellsEnd, SpellsOptional, SpellsResult, SpellsSimple, alone, with_statement, absent, present, unsaid, nothing, something}
 use Rattle.pm_grammar.specs.declared.level.Level.TheVariants as level
 use Rattle.pm_grammar.proofs.ExpressionStarts.{begins_more, none_opens, opens, opens_expression}
@@ -32,14 +31,6 @@ empty_true (t ∷ ts) test is empty = absurd (grind (arith, nat_tests))
 pub empty_false : (ts : List Token) (test : Bool) → test ≡ (length ts == 0) → test ≡ false → ts ≡ [] → ⊥
 empty_false [] test is never empty = false≢true (sym never ∙ is)
 empty_false (t ∷ ts) test is never empty = cc
-
--- ---- what was read
-
-pub read_none : {A : Type 0} (read : Option (A × List Token)) (one : A) (rest : List Token) → read ≡ None → IsRead read one rest → ⊥
-read_none {A} read one rest none is = subst (λ (r : Option (A × List Token)). IsRead r one rest) none is
-
-pub read_some : {A : Type 0} (read : Option (A × List Token)) (one a : A) (rest r : List Token) → read ≡ Some (a, r) → IsRead read one rest → (one ≡ a) × (rest ≡ r)
-read_some {A} read one a rest r some is = subst (λ (s : Option (A × List Token)). IsRead s one rest) some is
 
 -- ---- the end of a header
 
@@ -89,16 +80,18 @@ read_before_end {A} Spelled all read only one r b begins ends =
     let here = only one colon.0 colon.1 colon.3 (subst (λ (ts : List Token). Begins Spelled all one ts) colon.2 begins) in
     subst (λ (ts : List Token). IsRead read one ts) (sym colon.2) here
 
-pub none_before_end : {A : Type 0} (Spelled : List Token → A → Type 0) (all : List Token) (read : Option (A × List Token)) → IsOnlyBefore Spelled (codes ":") all read → read ≡ None
+pub none_before_end : {A : Type 0} (Spelled : List Token → A → Type 0) (all : List Token) → IsOnlyBefore Spelled (codes ":") all None
     → (one : A) (r : List Token) (b : Option Stmt) → Begins Spelled all one r → SpellsEnd r b → ⊥
-none_before_end {A} Spelled all read only none one r b begins ends = read_none read one r none (read_before_end Spelled all read only one r b begins ends)
+none_before_end Spelled all only one r b begins ends = read_before_end Spelled all None only one r b begins ends
 
-pub only_before_end : {A : Type 0} (Spelled : List Token → A → Type 0) (all rest : List Token) (a : A) (read : Option (A × List Token)) (end : Option (Option Stmt))
-    → IsOnlyBefore Spelled (codes ":") all read → read ≡ Some (a, rest) → ((body : Option Stmt) → SpellsEnd rest body → end ≡ Some body)
-    → (one : A) (r : List Token) (b : Option Stmt) → Begins Spelled all one r → SpellsEnd r b → (one ≡ a) × (end ≡ Some b)
-only_before_end {A} Spelled all rest a read end only some only_end one r b begins ends =
-    let here = read_some read one a r rest some (read_before_end Spelled all read only one r b begins ends) in
-    (here.0, only_end b (subst (λ (ts : List Token). SpellsEnd ts b) here.1 ends))
+pub only_before_end : {A : Type 0} (Spelled : List Token → A → Type 0) (all rest : List Token) (a : A) → IsOnlyBefore Spelled (codes ":") all (Some (a, rest))
+    → (one : A) (r : List Token) (b : Option Stmt) → Begins Spelled all one r → SpellsEnd r b → (one ≡ a) × SpellsEnd rest b
+only_before_end Spelled all rest a only one r b begins ends =
+    let here = read_before_end Spelled all (Some (a, rest)) only one r b begins ends in
+    (here.0, subst (λ (ts : List Token). SpellsEnd ts b) here.1 ends)
+
+pub pair_is : {A B : Type 0} (pair : A × B) (a : A) (b : B) → pair.0 ≡ a → pair.1 ≡ b → pair ≡ (a, b)
+pair_is {A} {B} pair a b first second = ap (λ (x : A). (x, pair.1)) first ∙ ap (λ (y : B). (a, y)) second
 
 -- ---- an optional expression
 
@@ -179,12 +172,12 @@ lone_is bytes (token ∷ next ∷ rest) is = absurd (false≢true is)
 guard_read : (all : List Token) (read : Option (Expr × List Token)) → IsOnly level.Conditional all read → (e : Expr) → (found : IsGuard all e) → IsRead read e (found.0 ∷ [])
 guard_read all read only e found = only e (found.0 ∷ []) found.2 (ends_parenthesis found.0 found.1)
 
-pub no_guard : (all : List Token) (read : Option (Expr × List Token)) → IsOnly level.Conditional all read → read ≡ None → (e : Expr) → IsGuard all e → ⊥
-no_guard all read only none e found = read_none read e (found.0 ∷ []) none (guard_read all read only e found)
+pub no_guard : (all : List Token) → IsOnly level.Conditional all None → (e : Expr) → IsGuard all e → ⊥
+no_guard all only e found = guard_read all None only e found
 
-pub only_guard : (all rest : List Token) (tree : Expr) (read : Option (Expr × List Token)) → IsOnly level.Conditional all read → read ≡ Some (tree, rest) → (e : Expr) → IsGuard all e → (e ≡ tree) × (is_lone (codes ")") rest ≡ true)
-only_guard all rest tree read only some e found =
-    let here = read_some read e tree (found.0 ∷ []) rest some (guard_read all read only e found) in
+pub only_guard : (all rest : List Token) (tree : Expr) → IsOnly level.Conditional all (Some (tree, rest)) → (e : Expr) → IsGuard all e → (e ≡ tree) × (is_lone (codes ")") rest ≡ true)
+only_guard all rest tree only e found =
+    let here = guard_read all (Some (tree, rest)) only e found in
     (here.0, subst (λ (ts : List Token). is_lone (codes ")") ts ≡ true) here.1 found.1)
 
 -- ---- what comes after `@`
@@ -229,25 +222,18 @@ guard_is : {ts : List Token} {word : Token} {s : Stmt} → SpellsDecorator (word
 guard_is (mark name is) = inl refl
 guard_is (guard word ts us e is opens_it inner) = inr (us, e, refl, opens_it, inner)
 
-guard_only : (all rest behind : List Token) (word : Token) → all ≡ word ∷ rest → (rest ≡ [] → ⊥) → OpensGuard rest behind → (s : Stmt) → SpellsDecorator all s → (e : Expr) × (s ≡ leaf.NonBlocking e) × IsGuard behind e
+pub guard_only : (all rest behind : List Token) (word : Token) → all ≡ word ∷ rest → (rest ≡ [] → ⊥) → OpensGuard rest behind → (s : Stmt) → SpellsDecorator all s → (e : Expr) × (s ≡ leaf.NonBlocking e) × IsGuard behind e
 guard_only all rest behind word front some opens_it s is =
     elim (guard_is (subst (λ (ts : List Token). SpellsDecorator ts s) front is)) [
       | inl empty ↦ absurd (some empty)
       | inr found ↦ (found.1, found.2, subst (λ (ts : List Token). IsGuard ts found.1) (one_opening found.3 opens_it) found.4)
     ]
 
-pub guard_read_once : (all rest behind : List Token) (word : Token) (e : Expr) (read : Option Expr) → all ≡ word ∷ rest → (rest ≡ [] → ⊥) → OpensGuard rest behind → ((one : Expr) → IsGuard behind one → read ≡ Some one) → read ≡ Some e
-    → (s : Stmt) → SpellsDecorator all s → Some (leaf.NonBlocking e) ≡ Some s
-guard_read_once all rest behind word e read front some opens_it only found s is =
+pub guard_read_once : (all rest behind : List Token) (word : Token) (e : Expr) → all ≡ word ∷ rest → (rest ≡ [] → ⊥) → OpensGuard rest behind → ((one : Expr) → IsGuard behind one → one ≡ e)
+    → (s : Stmt) → SpellsDecorator all s → s ≡ leaf.NonBlocking e
+guard_read_once all rest behind word e front some opens_it only s is =
     let parts = guard_only all rest behind word front some opens_it s is in
-    let same : e ≡ parts.0 = same_Some e parts.0 (sym found ∙ only parts.0 parts.2) in
-    ap (λ (one : Expr). Some (leaf.NonBlocking one)) same ∙ ap Some (sym parts.1)
-
-pub no_guard_read : (all rest behind : List Token) (word : Token) (read : Option Expr) → all ≡ word ∷ rest → (rest ≡ [] → ⊥) → OpensGuard rest behind → ((one : Expr) → IsGuard behind one → read ≡ Some one) → read ≡ None
-    → (s : Stmt) → SpellsDecorator all s → None ≡ Some s
-no_guard_read all rest behind word read front some opens_it only none s is =
-    let parts = guard_only all rest behind word front some opens_it s is in
-    absurd (none-some parts.0 (sym none ∙ only parts.0 parts.2))
+    parts.1 ∙ ap leaf.NonBlocking (only parts.0 parts.2)
 
 -- ---- a class
 
@@ -282,7 +268,7 @@ class_only all rest name base front never spelled s is =
       | inr found ↦ found.2 ∙ ap (λ (t : Token). leaf.Class name.text (Some t.text)) (one_base found.1 spelled)
     ]
 
-pub class_read : (all rest : List Token) (name base : Token) (text of : List ℕ) → all ≡ name ∷ rest → is_lone (codes ":") rest ≡ false → SpellsBase rest base → text ≡ name.text → of ≡ base.text → (s : Stmt) → SpellsClass all s → Some (leaf.Class text (Some of)) ≡ Some s
+pub class_read : (all rest : List Token) (name base : Token) (text of : List ℕ) → all ≡ name ∷ rest → is_lone (codes ":") rest ≡ false → SpellsBase rest base → text ≡ name.text → of ≡ base.text → (s : Stmt) → SpellsClass all s → s ≡ leaf.Class text (Some of)
 class_read all rest name base text of front never spelled same also s is = rw (class_only all rest name base front never spelled s is, same, also) refl
 
 -- ---- a branch
@@ -305,13 +291,13 @@ else_is (elif_branch word ts condition body is inner) here = absurd (both_ways _
 else_is (else_branch word ts body is inner) here = (body, refl, inner)
 else_is {word} {ts} (simple_branch us s inner) here = absurd (not_simple word ts s (no_simple_else word here) inner)
 
-if_only : (all behind : List Token) → IsAfter (is_word (codes "if")) all behind → (s : Stmt) → SpellsBranch all s → (condition : Expr) × (body : Option Stmt) × (s ≡ stmt.If condition body) × IsCondition behind condition body
+pub if_only : (all behind : List Token) → IsAfter (is_word (codes "if")) all behind → (s : Stmt) → SpellsBranch all s → (condition : Expr) × (body : Option Stmt) × (s ≡ stmt.If condition body) × IsCondition behind condition body
 if_only all behind word s is = if_is (subst (λ (ts : List Token). SpellsBranch ts s) word.1 is) word.2
 
-elif_only : (all behind : List Token) → IsAfter (is_word (codes "elif")) all behind → (s : Stmt) → SpellsBranch all s → (condition : Expr) × (body : Option Stmt) × (s ≡ stmt.Elif condition body) × IsCondition behind condition body
+pub elif_only : (all behind : List Token) → IsAfter (is_word (codes "elif")) all behind → (s : Stmt) → SpellsBranch all s → (condition : Expr) × (body : Option Stmt) × (s ≡ stmt.Elif condition body) × IsCondition behind condition body
 elif_only all behind word s is = elif_is (subst (λ (ts : List Token). SpellsBranch ts s) word.1 is) word.2
 
-else_only : (all behind : List Token) → IsAfter (is_word (codes "else")) all behind → (s : Stmt) → SpellsBranch all s → (body : Option Stmt) × (s ≡ stmt.Else body) × SpellsEnd behind body
+pub else_only : (all behind : List Token) → IsAfter (is_word (codes "else")) all behind → (s : Stmt) → SpellsBranch all s → (body : Option Stmt) × (s ≡ stmt.Else body) × SpellsEnd behind body
 else_only all behind word s is = else_is (subst (λ (ts : List Token). SpellsBranch ts s) word.1 is) word.2
 
 pub if_found : (all behind : List Token) (condition : Expr) (body : Option Stmt) → IsAfter (is_word (codes "if")) all behind → IsCondition behind condition body → SpellsBranch all (stmt.If condition body)
@@ -323,75 +309,52 @@ elif_found all behind condition body word inner = subst (λ (ts : List Token). S
 pub else_found : (all behind : List Token) (body : Option Stmt) → IsAfter (is_word (codes "else")) all behind → SpellsEnd behind body → SpellsBranch all (stmt.Else body)
 else_found all behind body word inner = subst (λ (ts : List Token). SpellsBranch ts (stmt.Else body)) (sym word.1) (else_branch word.0 behind body word.2 inner)
 
--- each condition with the end of its header was read
-abbrev pub IsOnlyCondition : List Token → Option (Expr × Option Stmt) → Type 0
-IsOnlyCondition all read = (condition : Expr) (body : Option Stmt) → IsCondition all condition body → read ≡ Some (condition, body)
+-- if none of the words comes first, it is a simple statement
+pub branch_simple : (all : List Token) (s : Stmt) → IsNotFirst (is_word (codes "if")) all → IsNotFirst (is_word (codes "elif")) all → IsNotFirst (is_word (codes "else")) all → SpellsBranch all s → SpellsSimple all s
+branch_simple _ _ no_if no_elif no_else (if_branch word ts condition body is inner) = absurd (both_ways _ no_if is)
+branch_simple _ _ no_if no_elif no_else (elif_branch word ts condition body is inner) = absurd (both_ways _ no_elif is)
+branch_simple _ _ no_if no_elif no_else (else_branch word ts body is inner) = absurd (both_ways _ no_else is)
+branch_simple _ _ no_if no_elif no_else (simple_branch ts s inner) = inner
 
-same_parts : {A B C : Type 0} (make : A → B → C) (a x : A) (b y : B) (read : Option (A × B)) (s : C) → read ≡ Some (a, b) → read ≡ Some (x, y) → s ≡ make x y → Some (make a b) ≡ Some s
-same_parts make a x b y read s some only made =
-    let parts = some_pair_parts a x b y (sym some ∙ only) in
-    rw (parts.0, parts.1, made) refl
-
-no_read : {A : Type 0} (P : Type 0) (read : Option A) (one : A) → read ≡ None → read ≡ Some one → P
-no_read P read one none some = absurd (none-some one (sym none ∙ some))
-
-pub no_if : (all behind : List Token) (read : Option (Expr × Option Stmt)) → IsAfter (is_word (codes "if")) all behind → IsOnlyCondition behind read → read ≡ None → (s : Stmt) → SpellsBranch all s → None ≡ Some s
-no_if all behind read word only none s is =
+-- the condition and the end of the header were read
+pub if_read : (all behind : List Token) (condition : Expr) (body : Option Stmt) → IsAfter (is_word (codes "if")) all behind → ((p : Expr × Option Stmt) → IsCondition behind p.0 p.1 → p ≡ (condition, body))
+    → (s : Stmt) → SpellsBranch all s → s ≡ stmt.If condition body
+if_read all behind condition body word only s is =
     let parts = if_only all behind word s is in
-    no_read _ read _ none (only parts.0 parts.1 parts.3)
+    parts.2 ∙ ap (λ (p : Expr × Option Stmt). stmt.If p.0 p.1) (only (parts.0, parts.1) parts.3)
 
-pub no_elif : (all behind : List Token) (read : Option (Expr × Option Stmt)) → IsAfter (is_word (codes "elif")) all behind → IsOnlyCondition behind read → read ≡ None → (s : Stmt) → SpellsBranch all s → None ≡ Some s
-no_elif all behind read word only none s is =
+pub elif_read : (all behind : List Token) (condition : Expr) (body : Option Stmt) → IsAfter (is_word (codes "elif")) all behind → ((p : Expr × Option Stmt) → IsCondition behind p.0 p.1 → p ≡ (condition, body))
+    → (s : Stmt) → SpellsBranch all s → s ≡ stmt.Elif condition body
+elif_read all behind condition body word only s is =
     let parts = elif_only all behind word s is in
-    no_read _ read _ none (only parts.0 parts.1 parts.3)
+    parts.2 ∙ ap (λ (p : Expr × Option Stmt). stmt.Elif p.0 p.1) (only (parts.0, parts.1) parts.3)
 
-pub no_else : (all behind : List Token) (read : Option (Option Stmt)) → IsAfter (is_word (codes "else")) all behind → ((body : Option Stmt) → SpellsEnd behind body → read ≡ Some body) → read ≡ None → (s : Stmt) → SpellsBranch all s → None ≡ Some s
-no_else all behind read word only none s is =
+pub else_read : (all behind : List Token) (body : Option Stmt) → IsAfter (is_word (codes "else")) all behind → ((other : Option Stmt) → SpellsEnd behind other → other ≡ body)
+    → (s : Stmt) → SpellsBranch all s → s ≡ stmt.Else body
+else_read all behind body word only s is =
     let parts = else_only all behind word s is in
-    no_read _ read _ none (only parts.0 parts.2)
-
-pub if_read : (all behind : List Token) (read : Option (Expr × Option Stmt)) (condition : Expr) (body : Option Stmt) → IsAfter (is_word (codes "if")) all behind → IsOnlyCondition behind read → read ≡ Some (condition, body) → (s : Stmt) → SpellsBranch all s → Some (stmt.If condition body) ≡ Some s
-if_read all behind read condition body word only some s is =
-    let parts = if_only all behind word s is in
-    same_parts stmt.If condition parts.0 body parts.1 read s some (only parts.0 parts.1 parts.3) parts.2
-
-pub elif_read : (all behind : List Token) (read : Option (Expr × Option Stmt)) (condition : Expr) (body : Option Stmt) → IsAfter (is_word (codes "elif")) all behind → IsOnlyCondition behind read → read ≡ Some (condition, body) → (s : Stmt) → SpellsBranch all s → Some (stmt.Elif condition body) ≡ Some s
-elif_read all behind read condition body word only some s is =
-    let parts = elif_only all behind word s is in
-    same_parts stmt.Elif condition parts.0 body parts.1 read s some (only parts.0 parts.1 parts.3) parts.2
-
-pub else_read : (all behind : List Token) (read : Option (Option Stmt)) (body : Option Stmt) → IsAfter (is_word (codes "else")) all behind → ((body : Option Stmt) → SpellsEnd behind body → read ≡ Some body) → read ≡ Some body → (s : Stmt) → SpellsBranch all s → Some (stmt.Else body) ≡ Some s
-else_read all behind read body word only some s is =
-    let parts = else_only all behind word s is in
-    let same : body ≡ parts.0 = same_Some body parts.0 (sym some ∙ only parts.0 parts.2) in
-    ap (λ (b : Option Stmt). Some (stmt.Else b)) same ∙ ap Some (sym parts.1)
+    parts.1 ∙ ap stmt.Else (only parts.0 parts.2)
 
 -- ---- what comes after `for`
 
 for_is : {ts : List Token} {s : Stmt} → SpellsFor ts s → (rest : List Token) × (name : List ℕ) × (bounds : List Expr) × (body : Option Stmt) × (s ≡ stmt.For name bounds body) × Begins SpellsRange ts (name, bounds) rest × SpellsEnd rest body
 for_is (for_range ts rest name bounds body begins ends) = (rest, name, bounds, body, refl, begins, ends)
 
-pub no_for : (all : List Token) (read : Option ((List ℕ × List Expr) × List Token)) → IsOnlyBefore SpellsRange (codes ":") all read → read ≡ None → (s : Stmt) → SpellsFor all s → None ≡ Some s
-no_for all read only none s is =
+pub no_for : (all : List Token) → IsOnlyBeginning SpellsRange all None → (s : Stmt) → SpellsFor all s → ⊥
+no_for all only s is =
     let parts = for_is is in
-    absurd (none_before_end SpellsRange all read only none (parts.1, parts.2) parts.0 parts.3 parts.5 parts.6)
+    only (parts.1, parts.2) parts.0 parts.5
 
-for_parts : (all rest : List Token) (name : List ℕ) (bounds : List Expr) (read : Option ((List ℕ × List Expr) × List Token)) (end : Option (Option Stmt)) → IsOnlyBefore SpellsRange (codes ":") all read → read ≡ Some ((name, bounds), rest)
-    → ((body : Option Stmt) → SpellsEnd rest body → end ≡ Some body) → (s : Stmt) → SpellsFor all s → (body : Option Stmt) × (s ≡ stmt.For name bounds body) × (end ≡ Some body)
-for_parts all rest name bounds read end only some only_end s is =
+-- the range was read, and the end of the header comes after it
+pub for_parts : (all rest : List Token) (range : List ℕ × List Expr) → IsOnlyBeginning SpellsRange all (Some (range, rest)) → (s : Stmt) → SpellsFor all s
+    → (body : Option Stmt) × (s ≡ stmt.For range.0 range.1 body) × SpellsEnd rest body
+for_parts all rest range only s is =
     let parts = for_is is in
-    let same = only_before_end SpellsRange all rest (name, bounds) read end only some only_end (parts.1, parts.2) parts.0 parts.3 parts.5 parts.6 in
-    (parts.3, parts.4 ∙ ap (λ (range : List ℕ × List Expr). stmt.For range.0 range.1 parts.3) same.0, same.1)
+    let same = only (parts.1, parts.2) parts.0 parts.5 in
+    (parts.3, parts.4 ∙ ap (λ (one : List ℕ × List Expr). stmt.For one.0 one.1 parts.3) same.0, subst (λ (ts : List Token). SpellsEnd ts parts.3) same.1 parts.6)
 
-pub no_for_end : (all rest : List Token) (name : List ℕ) (bounds : List Expr) (read : Option ((List ℕ × List Expr) × List Token)) (end : Option (Option Stmt)) → IsOnlyBefore SpellsRange (codes ":") all read → read ≡ Some ((name, bounds), rest)
-    → ((body : Option Stmt) → SpellsEnd rest body → end ≡ Some body) → end ≡ None → (s : Stmt) → SpellsFor all s → None ≡ Some s
-no_for_end all rest name bounds read end only some only_end none s is =
-    let parts = for_parts all rest name bounds read end only some only_end s is in
-    no_read _ end _ none parts.2
-
-pub for_only : (all rest : List Token) (name : List ℕ) (bounds : List Expr) (body : Option Stmt) (read : Option ((List ℕ × List Expr) × List Token)) (end : Option (Option Stmt)) → IsOnlyBefore SpellsRange (codes ":") all read → read ≡ Some ((name, bounds), rest)
-    → ((body : Option Stmt) → SpellsEnd rest body → end ≡ Some body) → end ≡ Some body → (s : Stmt) → SpellsFor all s → Some (stmt.For name bounds body) ≡ Some s
-for_only all rest name bounds body read end only some only_end some_end s is =
-    let parts = for_parts all rest name bounds read end only some only_end s is in
-    let same : body ≡ parts.0 = same_Some body parts.0 (sym some_end ∙ parts.2) in
-    ap (λ (b : Option Stmt). Some (stmt.For name bounds b)) same ∙ ap Some (sym parts.1)
+pub for_only : (all rest : List Token) (range : List ℕ × List Expr) (body : Option Stmt) → IsOnlyBeginning SpellsRange all (Some (range, rest)) → ((other : Option Stmt) → SpellsEnd rest other → other ≡ body)
+    → (s : Stmt) → SpellsFor all s → s ≡ stmt.For range.0 range.1 body
+for_only all rest range body only only_end s is =
+    let parts = for_parts all rest range only s is in
+    parts.1 ∙ ap (λ (one : Option Stmt). stmt.For range.0 range.1 one) (only_end parts.0 parts.2)

@@ -7,6 +7,7 @@ pub mod DecidedExpressions
 pub mod DecidedLines
 pub mod DecidedSimpleStatements
 pub mod Decisions
+pub mod DepthTests
 pub mod ExpressionStarts
 pub mod FirstOperands
 pub mod Headers

@@ -1,14 +1,13 @@
 -- A logical line by its first token.
-use Rattle.std.proofs.Common.{◌≡◌, ◌∙◌, ◌∷◌, ◌++◌, Bool, true, false, IsTrue, List, [], length, codes, Option, Some, None, refl, sym, ap, subst}
+use Rattle.std.proofs.Common.{◌≡◌, ◌∙◌, ◌∷◌, ◌++◌, Bool, false, IsTrue, List, [], length, codes, Option, Some, refl, sym, ap, subst}
 use Rattle.std.proofs.lemmas.Bool.{both_ways}
-use Rattle.std.specs.Prelude.{◌↔◌}
 use Rattle.pm_syn.specs.declared.expression.Expr.{Expr}
 use Rattle.pm_syn.specs.declared.statement.Par.{Par}
 use Rattle.pm_syn.specs.declared.statement.Stmt.{Stmt}
 use Rattle.pm_syn.specs.declared.statement.Stmt as leaf
 use Rattle.pm_syn.specs.declared.statement.Stmt.TheViews as stmt
 use Rattle.pm_syn.specs.declared.token.Token.{Token}
-use Rattle.pm_grammar.specs.Headers.{IsGuard, OpensGuard, SpellsBase, SpellsBranch, SpellsClass, SpellsDecorator, SpellsDefinition, SpellsDequeImport, SpellsFor, SpellsFunctionEnd, SpellsImport, all_names, based, definition, deque, deque_import, elif_branch, else_branch, for_range, function_end, guard, if_branch, mark, opened, simple_branch, some_names, with_base, without_base}
+use Rattle.pm_grammar.specs.Headers.{IsGuard, IsImport, OpensGuard, SpellsBase, SpellsBranch, SpellsClass, SpellsDecorator, SpellsDefinition, SpellsDequeImport, SpellsFor, SpellsFunctionEnd, SpellsImport, all_names, based, definition, deque, deque_import, elif_branch, else_branch, for_range, function_end, guard, if_branch, mark, opened, simple_branch, some_names, with_base, without_base}
 use Rattle.pm_grammar.specs.Tokens.{is_symbol, is_name, is_word}
 use Rattle.pm_grammar.specs.Statements.{SpellsLine, SpellsSignature, class_alone, class_of, defined, elif_line, else_line, for_line, guarded, if_line, import_all, import_deque, import_names, marked, simple}
 use Rattle.pm_grammar.proofs.OneSymbol.{mark_no_word, other_word, word_no_mark}
@@ -100,7 +99,7 @@ branch_is (branch_line ts s inner) no_at no_from no_class no_def no_for = inner
 pub at_only : (all ts : List Token) (t : Token) (s : Stmt) → all ≡ t ∷ ts → IsTrue (is_symbol (codes "@") t) → SpellsLine all s → SpellsDecorator ts s
 at_only all ts t s front is line = at_is (subst (λ (us : List Token). IsLine us s) front (line_is line)) is
 
-from_only : (all ts : List Token) (t : Token) (s : Stmt) → all ≡ t ∷ ts → IsTrue (is_word (codes "from") t) → SpellsLine all s → SpellsImport ts × (s ≡ leaf.Import)
+pub from_only : (all ts : List Token) (t : Token) (s : Stmt) → all ≡ t ∷ ts → IsTrue (is_word (codes "from") t) → SpellsLine all s → IsImport ts s
 from_only all ts t s front is line = from_is (subst (λ (us : List Token). IsLine us s) front (line_is line)) is
 
 pub class_only : (all ts : List Token) (t : Token) (s : Stmt) → all ≡ t ∷ ts → IsTrue (is_word (codes "class") t) → SpellsLine all s → SpellsClass ts s
@@ -177,8 +176,8 @@ branch_found (simple_branch ts s inner) = simple ts s inner
 pub at_line_found : (all ts : List Token) (t : Token) (s : Stmt) → all ≡ t ∷ ts → IsTrue (is_symbol (codes "@") t) → SpellsDecorator ts s → SpellsLine all s
 at_line_found all ts t s front is inner = subst (λ (us : List Token). SpellsLine us s) (sym front) (at_found inner t is)
 
-pub from_line_found : (all ts : List Token) (t : Token) → all ≡ t ∷ ts → IsTrue (is_word (codes "from") t) → SpellsImport ts → SpellsLine all leaf.Import
-from_line_found all ts t front is inner = subst (λ (us : List Token). SpellsLine us leaf.Import) (sym front) (import_found inner t is)
+pub from_line_found : (all ts : List Token) (t : Token) (s : Stmt) → all ≡ t ∷ ts → IsTrue (is_word (codes "from") t) → IsImport ts s → SpellsLine all s
+from_line_found all ts t s front is inner = rw (front, inner.1) (import_found inner.0 t is)
 
 pub class_line_found : (all ts : List Token) (t : Token) (s : Stmt) → all ≡ t ∷ ts → IsTrue (is_word (codes "class") t) → SpellsClass ts s → SpellsLine all s
 class_line_found all ts t s front is inner = subst (λ (us : List Token). SpellsLine us s) (sym front) (class_found inner t is)
@@ -188,9 +187,3 @@ def_line_found all ts t s front is inner = subst (λ (us : List Token). SpellsLi
 
 pub for_line_found : (all ts : List Token) (t : Token) (s : Stmt) → all ≡ t ∷ ts → IsTrue (is_word (codes "for") t) → SpellsFor ts s → SpellsLine all s
 for_line_found all ts t s front is inner = subst (λ (us : List Token). SpellsLine us s) (sym front) (for_found inner t is)
-
-pub import_read : (all ts : List Token) (t : Token) (test : Bool) → all ≡ t ∷ ts → IsTrue (is_word (codes "from") t) → (IsTrue test ↔ SpellsImport ts) → test ≡ true → (s : Stmt) → SpellsLine all s → Some leaf.Import ≡ Some s
-import_read all ts t test front is are here s line = ap Some (sym (from_only all ts t s front is line).1)
-
-pub no_import_read : (all ts : List Token) (t : Token) (test : Bool) → all ≡ t ∷ ts → IsTrue (is_word (codes "from") t) → (IsTrue test ↔ SpellsImport ts) → test ≡ false → (s : Stmt) → SpellsLine all s → None ≡ Some s
-no_import_read all ts t test front is are never s line = absurd (both_ways test never (are.1 (from_only all ts t s front is line).0))

@@ -6,7 +6,7 @@ use Rattle.pm_syn.specs.declared.expression.Expr.{Expr}
 use Rattle.pm_syn.specs.declared.expression.Expr as leaf
 use Rattle.pm_syn.specs.declared.expression.Expr.TheViews as expr
 use Rattle.pm_syn.specs.declared.token.Token.{Token}
-use Rattle.pm_grammar.specs.Brackets.{IsNoParameter, IsOnlyArgument, SpellsList, ends_argument}
+use Rattle.pm_grammar.specs.Brackets.{IsNoParameter, SpellsList, ends_argument}
 use Rattle.pm_grammar.specs.Expressions.{Spells, SpellsArgument, SpellsArgumentSequence, SpellsArguments, SpellsItems, SpellsRange, SpellsSequence}
 use Rattle.pm_grammar.specs.Expressions as spells
 use Rattle.pm_grammar.specs.Prefixes.{IsNotFirst, begins_with}
@@ -22,7 +22,7 @@ use Rattle.pm_grammar.proofs.ExpressionStarts.{closing_opens, opens, parenthesis
 use Rattle.pm_grammar.proofs.OneSymbol.{argument_ends, bracket_no_comma, ends_bracket, ends_comma, ends_for, ends_parenthesis, name_is}
 use Rattle.pm_grammar.proofs.OperandStarts.{IsBegun, begun_expression}
 use Rattle.pm_grammar.proofs.TokenTexts.{of_mark, of_word}
-use Rattle.pm_grammar.proofs.CallArguments.{GoesOnArguments, goes_argument, goes_arguments, no_plain_parameter, only_arguments, only_last, only_named, only_plain}
+use Rattle.pm_grammar.proofs.CallArguments.{GoesOnArguments, IsOnlyArgument, goes_argument, goes_arguments, no_plain_parameter, only_arguments, only_last, only_named, only_plain}
 use Rattle.pm_grammar.proofs.Lists.{GoesOnItems, goes_item, goes_items, only_each, only_empty, only_for, only_items, only_items_comma, only_list}
 use Rattle.pm_grammar.proofs.OneReading.{IsOne, one_attribute, one_call, one_comparison, one_conditional, one_group, one_grouped, one_index, one_leaf, one_list, one_negation, one_power, one_signed, one_slice, one_tight}
 use Rattle.pm_grammar.proofs.Ranges.{GoesOnBounds, goes_bound, goes_bounds, only_bounds, only_range}

@@ -17,7 +17,7 @@ use Rattle.pm_grammar.specs.Prefixes.{IsNotFirst}
 use Rattle.pm_grammar.specs.Levels.{groups_left, operator_at, rank, sign_of, tighter}
 use Rattle.pm_grammar.specs.Tokens.{is_symbol, is_op, is_word}
 use Rattle.pm_grammar.specs.Reading.{Ends, IsOnly, IsOnlyBeginning, IsOnlyBefore}
-use Rattle.pm_grammar.specs.Suffixes.{IsOnlySuffix, begins_suffix}
+use Rattle.pm_grammar.specs.Suffixes.{SpellsSuffix, begins_suffix}
 use Rattle.pm_grammar.specs.declared.level.Level.{Level}
 use Rattle.pm_grammar.specs.declared.level.Level.TheVariants as level
 use Rattle.pm_grammar.proofs.Atoms.{atom_of_group, atom_of_list, only_group, only_leaf}
@@ -188,7 +188,7 @@ one_power ts us sign op base exponent is one two = plainly level.Power (ts ++ si
 
 -- each suffix there is this one
 abbrev IsOneSuffix : Expr → List Token → Expr → Type 0
-IsOneSuffix a vs b = (rest : List Token) → (begins_suffix (vs ++ rest) ≡ true) × IsOnlySuffix a (vs ++ rest) (Some (b, rest))
+IsOneSuffix a vs b = (rest : List Token) → (begins_suffix (vs ++ rest) ≡ true) × IsOnlyBeginning (SpellsSuffix a) (vs ++ rest) (Some (b, rest))
 
 one_suffix : (ts vs : List Token) (a b : Expr) → IsOne level.Postfix ts a → IsOneSuffix a vs b → IsOne level.Postfix (ts ++ vs) b
 one_suffix ts vs a b one suffix rest =
@@ -207,8 +207,8 @@ one_attribute ts dot name e is one = one_suffix ts (dot ∷ name ∷ []) e (expr
   only_suffix_attribute (dot ∷ name ∷ rest) (name ∷ rest) e (Some (expr.Attr e name.text, rest)) (dot, refl, is) (only_attribute (name ∷ rest) rest e name name.text refl refl),
 ))
 
-suffix_moved : (e longer : Expr) (all other rest : List Token) → other ≡ all → IsOnlySuffix e all (Some (longer, rest)) → IsOnlySuffix e other (Some (longer, rest))
-suffix_moved e longer all other rest same only = subst (λ (xs : List Token). IsOnlySuffix e xs (Some (longer, rest))) (sym same) only
+suffix_moved : (e longer : Expr) (all other rest : List Token) → other ≡ all → IsOnlyBeginning (SpellsSuffix e) all (Some (longer, rest)) → IsOnlyBeginning (SpellsSuffix e) other (Some (longer, rest))
+suffix_moved e longer all other rest same only = subst (λ (xs : List Token). IsOnlyBeginning (SpellsSuffix e) xs (Some (longer, rest))) (sym same) only
 
 pub one_call : (ts us : List Token) (opening closing : Token) (e : Expr) (arguments : List Arg) → IsTrue (is_symbol (codes "(") opening) → IsTrue (is_symbol (codes ")") closing)
     → IsOne level.Postfix ts e → ((rest : List Token) → IsOnlyBefore SpellsArguments (codes ")") (us ++ closing ∷ rest) (Some (arguments, closing ∷ rest)))
@@ -247,7 +247,7 @@ one_slice ts us vs opening colon closing e low high is_open is_colon is_close on
 
 -- ---- atoms
 
-pub one_leaf : (token : Token) (e : Expr) → is_op token.kind ≡ false → ((other : Expr) → SpellsLeaf token other → ◌≡◌ {A = Option Expr} (Some e) (Some other)) → IsOne level.Atom (token ∷ []) e
+pub one_leaf : (token : Token) (e : Expr) → is_op token.kind ≡ false → ((other : Expr) → SpellsLeaf token other → other ≡ e) → IsOne level.Atom (token ∷ []) e
 one_leaf token e no_mark only = plainly level.Atom (token ∷ []) e refl (λ at. omega (arith, at)) (λ rest ends.
     only_leaf (token ∷ rest) rest token e refl (ap (λ (op : Bool). op && bytes_eq token.text (codes "(")) no_mark) (ap (λ (op : Bool). op && bytes_eq token.text (codes "[")) no_mark) only)
 

@@ -1,7 +1,6 @@
 -- That the tokens of a logical line spell one statement.
 use Rattle.std.proofs.Common.{◌≡◌, ◌⊎◌, ◌++◌, ◌∙◌, ℕ, Bool, false, true, IsTrue, List, [], ◌∷◌, codes, Option, Some, None, append_assoc, refl, sym, ap, subst, inl, inr}
 use Rattle.std.proofs.lemmas.Bool.{both_ways, false_from_ne_true, false≢true, or_left, or_right}
-use Rattle.std.proofs.lemmas.Option.{same_Some}
 use Rattle.std.specs.Str.{bytes_eq}
 use Rattle.pm_syn.specs.declared.expression.Expr.{Expr}
 use Rattle.pm_syn.specs.declared.statement.Par.{Par}
@@ -11,7 +10,7 @@ use Rattle.pm_syn.specs.declared.statement.Stmt.TheViews as stmt
 use Rattle.pm_syn.specs.declared.token.Token.{Token}
 use Rattle.pm_grammar.specs.Prefixes.{IsNotFirst, begins_with}
 use Rattle.pm_grammar.specs.Brackets.{ends_argument}
-use Rattle.pm_grammar.specs.Headers.{IsGuard, IsOnlyParameter, IsSignature, OpensGuard, SpellsBase, SpellsBranch, SpellsClass, SpellsDecorator, SpellsDefinition, SpellsFunctionEnd, SpellsImport}
+use Rattle.pm_grammar.specs.Headers.{IsCondition, IsGuard, IsOnlyOptional, IsSignature, OpensGuard, SpellsBase, SpellsBranch, SpellsClass, SpellsDecorator, SpellsDefinition, SpellsFunctionEnd, SpellsImport}
 use Rattle.pm_grammar.specs.Headers as header
 use Rattle.pm_grammar.specs.Laws.{TokensSpellOneStatement}
 use Rattle.pm_grammar.specs.Tokens.{is_symbol, is_name, is_word}
@@ -19,24 +18,24 @@ use Rattle.pm_grammar.specs.Reading.{Ends, IsOnlyBefore}
 use Rattle.pm_grammar.specs.Statements.{IsExpression, SpellsEnd, SpellsLine, SpellsOptional, SpellsParameter, SpellsParameters, SpellsResult, SpellsSignature, SpellsSimple}
 use Rattle.pm_grammar.specs.Statements as line
 use Rattle.pm_grammar.specs.declared.level.Level.TheVariants as level
-use Rattle.pm_grammar.proofs.Headers.{IsOnlyCondition, elif_read, else_read, expression_before, guard_read_once, if_read, none_behind, only_alone, only_before_end, only_with, optional_behind, result_behind, some_behind}
+use Rattle.pm_grammar.proofs.Headers.{elif_read, else_read, expression_before, guard_read_once, if_read, none_behind, only_alone, only_before_end, only_with, optional_behind, pair_is, result_behind, some_behind}
 use Rattle.pm_grammar.proofs.Headers as headers
 use Rattle.pm_grammar.proofs.ExpressionStarts.{none_opens, opens, opens_expression}
 use Rattle.pm_grammar.proofs.OneSymbol.{argument_ends, ends_colon, ends_parenthesis, mark_no_name, mark_no_word, no_argument_end, other_mark, other_word, word_no_mark}
 use Rattle.pm_grammar.proofs.StatementStarts.{no_simple_at, no_simple_class, no_simple_def, no_simple_elif, no_simple_else, no_simple_for, no_simple_from, no_simple_if, opens_simple, opens_statement}
-use Rattle.pm_grammar.proofs.Lines.{at_only, branch_only, class_only, def_only, for_only, import_read}
+use Rattle.pm_grammar.proofs.Lines.{at_only, branch_only, class_only, def_only, for_only, from_only}
 use Rattle.pm_grammar.proofs.OneExpression.{only_expression_spelled, only_range_spelled}
 use Rattle.pm_grammar.proofs.OneSimpleStatement.{one_simple}
-use Rattle.pm_grammar.proofs.Signatures.{IsGoingOn, IsOnlyOptional, definition_only, function_end_only, goes_first, goes_next, no_self_only, note_ends, only_parameter, signature_only, trailing_only}
+use Rattle.pm_grammar.proofs.Signatures.{IsGoingOn, IsOnlyParameter, definition_only, function_end_parts, goes_first, goes_next, no_self_only, note_ends, only_parameter, signature_only, trailing_only}
 
 -- ---- the end of a header
 
-one_end : (ts : List Token) (body : Option Stmt) → SpellsEnd ts body → (other : Option Stmt) → SpellsEnd ts other → ◌≡◌ {A = Option (Option Stmt)} (Some body) (Some other)
-one_end _ _ (line.alone colon is) other also = ap Some (sym (only_alone (colon ∷ []) [] (colon, refl, is) refl other also))
+one_end : (ts : List Token) (body : Option Stmt) → SpellsEnd ts body → (other : Option Stmt) → SpellsEnd ts other → other ≡ body
+one_end _ _ (line.alone colon is) other also = only_alone (colon ∷ []) [] (colon, refl, is) refl other also
 one_end _ _ (line.with_statement colon ts s is spelled) other also =
     let some : ts ≡ [] → ⊥ = λ none. (let none_opens = subst (λ (us : List Token). IsTrue (begins_with opens_simple us)) none (opens_statement spelled) in false≢true none_opens) in
     let read = only_with (colon ∷ ts) ts (colon, refl, is) some other also in
-    ap Some (ap Some (sym (one_simple ts s spelled read.0 read.2)) ∙ sym read.1)
+    read.1 ∙ ap Some (one_simple ts s spelled read.0 read.2)
 
 -- the end of a header begins with a colon
 end_begun : (ts : List Token) (body : Option Stmt) → SpellsEnd ts body → (colon : Token) × (us : List Token) × (ts ≡ colon ∷ us) × IsTrue (is_symbol (codes ":") colon)
@@ -49,12 +48,11 @@ end_ends _ _ (line.alone colon is) = ends_colon colon is
 end_ends _ _ (line.with_statement colon ts s is spelled) = ends_colon colon is
 
 -- a condition, and the end of its header
-one_condition : (ts us : List Token) (condition : Expr) (body : Option Stmt) → IsExpression ts condition → SpellsEnd us body → IsOnlyCondition (ts ++ us) (Some (condition, body))
-one_condition ts us condition body spelled ends = λ other behind is.
+one_condition : (ts us : List Token) (condition : Expr) (body : Option Stmt) → IsExpression ts condition → SpellsEnd us body → (p : Expr × Option Stmt) → IsCondition (ts ++ us) p.0 p.1 → p ≡ (condition, body)
+one_condition ts us condition body spelled ends p is =
     let only = expression_before (ts ++ us) (Some (condition, us)) (only_expression_spelled ts us condition spelled (end_ends us body ends)) in
-    let read = only_before_end IsExpression (ts ++ us) us condition (Some (condition, us)) (Some body) only refl (one_end us body ends) other is.0 behind is.1 is.2 in
-    let same : body ≡ behind = same_Some body behind read.1 in
-    ap (λ (c : Expr). Some (c, body)) (sym read.0) ∙ ap (λ (b : Option Stmt). Some (other, b)) same
+    let read = only_before_end IsExpression (ts ++ us) us condition only p.0 is.0 p.1 is.1 is.2 in
+    pair_is p condition body read.0 (one_end us body ends p.1 read.1)
 
 -- ---- parameters
 
@@ -77,7 +75,7 @@ one_parameter _ _ (line.parameter name ts us note default named note_is default_
     let notes : IsOnlyOptional (codes ":") tail (Some (note, mid)) =
     subst (λ (xs : List Token). IsOnlyOptional (codes ":") xs (Some (note, mid))) (sym (append_assoc ts us behind)) (one_optional (codes ":") ts mid note note_is ends.0 ends.1) in
     let defaults : IsOnlyOptional (codes "=") mid (Some (default, behind)) = one_optional (codes "=") us behind default default_is (no_argument_end (codes "=") next refl refl is) (argument_ends next is) in
-    only_parameter (name ∷ tail) tail mid behind name name.text note default (Some (note, mid)) (Some (default, behind)) refl notes refl defaults refl refl
+    only_parameter (name ∷ tail) tail mid behind name name.text note default refl notes defaults refl
 
 -- a parameter begins with a name
 parameter_begun : (ts : List Token) (p : Par) → SpellsParameter ts p → (rest : List Token) → begins_with (is_symbol (codes ")")) (ts ++ rest) ≡ false
@@ -89,7 +87,7 @@ one_going_on _ _ (line.and_parameter comma ts us ps p first mark spelled) next r
     let tail = us ++ next ∷ rest in
     let inner = one_going_on ts ps first comma tail (or_left _ _ mark) in
     subst (λ (xs : List Token). IsGoingOn xs (ps ++ p ∷ []) (next ∷ rest)) (sym (append_assoc ts (comma ∷ us) (next ∷ rest)))
-    (goes_next (ts ++ comma ∷ tail) (comma ∷ tail) tail (next ∷ rest) ps p (Some (p, next ∷ rest)) inner (comma, refl, mark) (parameter_begun us p spelled (next ∷ rest)) (one_parameter us p spelled next rest ends) refl)
+    (goes_next (ts ++ comma ∷ tail) (comma ∷ tail) tail (next ∷ rest) ps p inner (comma, refl, mark) (parameter_begun us p spelled (next ∷ rest)) (one_parameter us p spelled next rest ends))
 
 -- what comes between the parentheses of a function
 abbrev IsOneSignature : List Token → Bool → List Par → Type 0
@@ -133,11 +131,8 @@ one_result _ _ (line.something arrow ts e mark spelled) rest body ends = λ othe
 
 -- ---- lines by their first token
 
-some_same : (one other : Stmt) → ◌≡◌ {A = Option Stmt} (Some one) (Some other) → other ≡ one
-some_same one other same = sym (same_Some one other same)
-
-one_import : (ts : List Token) (word : Token) → IsTrue (is_word (codes "from") word) → SpellsImport ts → (other : Stmt) → SpellsLine (word ∷ ts) other → other ≡ leaf.Import
-one_import ts word is spelled other also = some_same leaf.Import other (import_read (word ∷ ts) ts word true refl is (λ _. spelled, λ _. refl) refl other also)
+one_import : (ts : List Token) (word : Token) → IsTrue (is_word (codes "from") word) → (other : Stmt) → SpellsLine (word ∷ ts) other → other ≡ leaf.Import
+one_import ts word is other also = (from_only (word ∷ ts) ts word other refl is also).1
 
 -- a class, token by token
 class_is : (ts : List Token) (s : Stmt) → SpellsClass ts s
@@ -181,9 +176,9 @@ one_mark name other also = go (name ∷ []) other also refl where
   go _ _ (header.mark one is) front = let same : one ≡ name = cc in ap (λ (t : Token). leaf.Mark t.text) same
   go _ _ (header.guard word us vs e is opens_it inner) front = absurd (no_guard us vs opens_it cc)
 
-one_guard : (ts : List Token) (closing : Token) (e : Expr) → IsExpression ts e → IsTrue (is_symbol (codes ")") closing) → (other : Expr) → IsGuard (ts ++ closing ∷ []) other → ◌≡◌ {A = Option Expr} (Some e) (Some other)
+one_guard : (ts : List Token) (closing : Token) (e : Expr) → IsExpression ts e → IsTrue (is_symbol (codes ")") closing) → (other : Expr) → IsGuard (ts ++ closing ∷ []) other → other ≡ e
 one_guard ts closing e spelled is other found =
-    ap Some (sym (only_expression_spelled ts (closing ∷ []) e spelled (ends_parenthesis closing is) other (found.0 ∷ []) found.2 (ends_parenthesis found.0 found.1)).0)
+    (only_expression_spelled ts (closing ∷ []) e spelled (ends_parenthesis closing is) other (found.0 ∷ []) found.2 (ends_parenthesis found.0 found.1)).0
 
 -- no header begins with a word or a symbol with which a simple statement begins
 one_branch : (ts : List Token) (s : Stmt) → IsTrue (begins_with opens_simple ts) → SpellsBranch ts s → SpellsSimple ts s
@@ -209,19 +204,17 @@ one_definition : (name opening closing : Token) (ts us vs : List Token) (has_sel
 one_definition name opening closing ts us vs has_self ps result body is_open signature is_close result_is ends other also =
     let rest = closing ∷ (us ++ vs) in
     let behind = ts ++ rest in
-    let only_end : (one : Option Expr) (two : Option Stmt) → SpellsFunctionEnd rest one two → ◌≡◌ {A = Option (Option Expr × Option Stmt)} (Some (result, body)) (Some (one, two)) =
-    λ one two spelled. function_end_only rest (us ++ vs) vs result body (Some (result, vs)) (Some body) (closing, refl, is_close) (one_result us result result_is vs body ends) refl (one_end vs body ends) refl one two spelled in
-    some_same (stmt.Def name.text has_self ps result body) other
-    (definition_only (name ∷ opening ∷ behind) (opening ∷ behind) behind rest name name.text has_self ps result body (Some ((has_self, ps), rest)) (Some (result, body)) refl (opening, refl, is_open)
-    (one_signature ts has_self ps signature closing (us ++ vs) is_close) refl only_end refl refl other also)
+    let only_end = λ (end : Option Expr × Option Stmt) (spelled : SpellsFunctionEnd rest end.0 end.1).
+    (let parts = function_end_parts rest (us ++ vs) vs result (closing, refl, is_close) (one_result us result result_is vs body ends) end.0 end.1 spelled in pair_is end result body parts.0 (one_end vs body ends end.1 parts.1)) in
+    definition_only (name ∷ opening ∷ behind) (opening ∷ behind) behind rest name name.text (has_self, ps) result body refl (opening, refl, is_open)
+    (one_signature ts has_self ps signature closing (us ++ vs) is_close) only_end refl other also
 
 -- ---- all lines
 
 one_line : (ts : List Token) (s : Stmt) → SpellsLine ts s → (other : Stmt) → SpellsLine ts other → other ≡ s
-one_line _ _ (line.import_all from_word library import_word star is library_is import_is star_is) other also = one_import _ from_word is (header.all_names library import_word star library_is import_is star_is) other also
-one_line _ _ (line.import_names from_word library import_word names is library_is import_is spelled) other also = one_import _ from_word is (header.some_names library import_word names library_is import_is spelled) other also
-one_line _ _ (line.import_deque from_word library import_word deque is library_is import_is deque_is) other also =
-    one_import _ from_word is (header.deque _ (header.deque_import library import_word deque library_is import_is deque_is)) other also
+one_line _ _ (line.import_all from_word library import_word star is library_is import_is star_is) other also = one_import _ from_word is other also
+one_line _ _ (line.import_names from_word library import_word names is library_is import_is spelled) other also = one_import _ from_word is other also
+one_line _ _ (line.import_deque from_word library import_word deque is library_is import_is deque_is) other also = one_import _ from_word is other also
 one_line _ _ (line.class_alone word name colon is named mark) other also = one_class_alone name colon other (class_only (word ∷ name ∷ colon ∷ []) (name ∷ colon ∷ []) word other refl is also)
 one_line _ _ (line.class_of word name opening base closing colon is named is_open base_named is_close mark) other also =
     let behind = name ∷ opening ∷ base ∷ closing ∷ colon ∷ [] in
@@ -233,22 +226,16 @@ one_line _ _ (line.marked at_sign name is named) other also = one_mark name othe
 one_line _ _ (line.guarded at_sign word opening lambda self colon closing ts e is word_is is_open lambda_is self_is mark spelled is_close) other also =
     let behind = ts ++ closing ∷ [] in
     let rest = opening ∷ lambda ∷ self ∷ colon ∷ behind in
-    some_same (leaf.NonBlocking e) other
-    (guard_read_once (word ∷ rest) rest behind word e (Some e) refl (λ none. cc) (header.opened opening lambda self colon behind is_open lambda_is self_is mark) (one_guard ts closing e spelled is_close) refl other
-    (at_only (at_sign ∷ word ∷ rest) (word ∷ rest) at_sign other refl is also))
+    guard_read_once (word ∷ rest) rest behind word e refl (λ none. cc) (header.opened opening lambda self colon behind is_open lambda_is self_is mark) (one_guard ts closing e spelled is_close) other
+    (at_only (at_sign ∷ word ∷ rest) (word ∷ rest) at_sign other refl is also)
 one_line _ _ (line.if_line word ts us condition body is spelled ends) other also =
-    some_same (stmt.If condition body) other
-    (if_read (word ∷ (ts ++ us)) (ts ++ us) (Some (condition, body)) condition body (word, refl, is) (one_condition ts us condition body spelled ends) refl other (branch_line (codes "if") word (ts ++ us) other refl refl refl refl is also))
+    if_read (word ∷ (ts ++ us)) (ts ++ us) condition body (word, refl, is) (one_condition ts us condition body spelled ends) other (branch_line (codes "if") word (ts ++ us) other refl refl refl refl is also)
 one_line _ _ (line.elif_line word ts us condition body is spelled ends) other also =
-    some_same (stmt.Elif condition body) other
-    (elif_read (word ∷ (ts ++ us)) (ts ++ us) (Some (condition, body)) condition body (word, refl, is) (one_condition ts us condition body spelled ends) refl other (branch_line (codes "elif") word (ts ++ us) other refl refl refl refl is also))
+    elif_read (word ∷ (ts ++ us)) (ts ++ us) condition body (word, refl, is) (one_condition ts us condition body spelled ends) other (branch_line (codes "elif") word (ts ++ us) other refl refl refl refl is also)
 one_line _ _ (line.else_line word ts body is ends) other also =
-    some_same (stmt.Else body) other (else_read (word ∷ ts) ts (Some body) body (word, refl, is) (one_end ts body ends) refl other (branch_line (codes "else") word ts other refl refl refl refl is also))
+    else_read (word ∷ ts) ts body (word, refl, is) (one_end ts body ends) other (branch_line (codes "else") word ts other refl refl refl refl is also)
 one_line _ _ (line.for_line word ts us name bounds body is range ends) other also =
-    let only = only_range_spelled ts (name, bounds) range us in
-    some_same (stmt.For name bounds body) other
-    (headers.for_only (ts ++ us) us name bounds body (Some ((name, bounds), us)) (Some body) (λ one closing rest mark begins. only one (closing ∷ rest) begins) refl (one_end us body ends) refl other
-    (for_only (word ∷ (ts ++ us)) (ts ++ us) word other refl is also))
+    headers.for_only (ts ++ us) us (name, bounds) body (only_range_spelled ts (name, bounds) range us) (one_end us body ends) other (for_only (word ∷ (ts ++ us)) (ts ++ us) word other refl is also)
 one_line _ _ (line.simple ts s spelled) other also = one_simple ts s spelled other (simple_line ts other (opens_statement spelled) also)
 
 pub tokens_spell_one_statement : TokensSpellOneStatement

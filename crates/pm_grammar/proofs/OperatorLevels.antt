@@ -1,5 +1,5 @@
 -- A token is an operator between operands at one level, and expressions of no tighter level continue at it.
-use Rattle.std.proofs.Common.{◌≡◌, ◌≤◌, ◌<◌, ◌∙◌, Bool, true, false, if◌then◌else◌, nat_le, IsTrue, List, [], ◌∷◌, codes, Option, Some, None, refl, sym, ap, arith}
+use Rattle.std.proofs.Common.{◌≡◌, ◌≤◌, ◌<◌, ◌∙◌, Bool, true, false, if◌then◌else◌, nat_le, IsTrue, List, [], ◌∷◌, length, codes, Option, Some, None, refl, sym, ap, arith}
 use Rattle.std.proofs.lemmas.Bool.{agree_below, agree_below_at, both_ways, le-leb, lt-leb, or_parts}
 use Rattle.pm_syn.specs.declared.expression.BinaryOp.{BinaryOp}
 use Rattle.pm_syn.specs.declared.token.Token.{Token}
@@ -118,3 +118,21 @@ goes_by_none l bound at tokens tail first op front is stops =
     rw front (λ other op_there there goes.
     let same : at ≡ other = one_level at other first op op_there is there in
     both_ways _ stops (ap (continues_by l bound) same ∙ goes))
+
+-- ---- no operator comes first
+
+pub no_operator_in : (l bound : Level) (tokens : List Token) → length tokens ≡ 0 → IsNoOperator l bound tokens
+no_operator_in l bound [] is = tt
+no_operator_in l bound (first ∷ tokens) is = cc
+
+pub no_operator_first : (l bound : Level) (tokens tail : List Token) (first : Token) → tokens ≡ first ∷ tail → level_of first ≡ None → IsNoOperator l bound tokens
+no_operator_first l bound tokens tail first front none =
+    rw front (λ at op there goes. (let here = level_of-operator at first op there in cc))
+
+pub no_operator_at : (l bound at : Level) (tokens tail : List Token) (first : Token) → tokens ≡ first ∷ tail → level_of first ≡ Some at → operator_at at first ≡ None → IsNoOperator l bound tokens
+no_operator_at l bound at tokens tail first front some none =
+    rw front (λ other op there goes.
+    let here = level_of-operator other first op there in
+    let same : at ≡ other = cc in
+    let never = ap (λ (k : Level). operator_at k first) same in
+    cc)

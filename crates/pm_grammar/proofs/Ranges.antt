@@ -3,7 +3,7 @@ use Rattle.std.proofs.Common.{◌≡◌, ◌≤◌, ◌+◌, ◌∷◌, ◌++◌
 use Rattle.std.specs.Prelude.{Some, None}
 use Rattle.pm_syn.specs.declared.expression.Expr.{Expr}
 use Rattle.pm_syn.specs.declared.token.Token.{Token}
-use Rattle.pm_grammar.specs.Brackets.{SpellsBounds, SpellsMore}
+use Rattle.pm_grammar.specs.Brackets.{OpensRange, SpellsBounds, SpellsMore}
 use Rattle.pm_grammar.specs.Expressions.{Spells, SpellsRange, SpellsSequence}
 use Rattle.pm_grammar.specs.Prefixes.{IsAfter, IsNotFirst}
 use Rattle.pm_grammar.specs.Tokens.{is_symbol, is_name, is_word}
@@ -135,31 +135,13 @@ range_reads tokens left p (front, split, spelled) = go front p split spelled whe
     bounds = (ts ++ closing ∷ [], refl, (ts, closing, refl, (s, few), mark'));
   }
 
--- what was read of a range, up to its bounds
-pub record IsRangeFront (tokens : List Token) (name : Token) (tail : List Token) : Type 0 where
-  pub in_word : Token
-  pub range : Token
-  pub opening : Token
-  pub there : tokens ≡ name ∷ in_word ∷ range ∷ opening ∷ tail
-  pub named : IsTrue (is_name name)
-  pub is_in : IsTrue (is_word (codes "in") in_word)
-  pub is_range : IsTrue (is_word (codes "range") range)
-  pub mark : IsTrue (is_symbol (codes "(") opening)
+-- nothing is read if the tokens don't open a range
+pub no_range_there : (tokens : List Token) → ((name : Token) (tail : List Token) → OpensRange tokens name tail → ⊥) → IsOnlyBeginning SpellsRange tokens None
+no_range_there tokens never p left begins =
+    let r = range_reads tokens left p begins in
+    never r.name r.tail (record { in_word = r.in_word; range = r.range; opening = r.opening; there = r.there; named = r.named; is_in = r.is_in; is_range = r.is_range; mark = r.mark })
 
-pub range_front : (tokens one two three four : List Token) (name : Token) → tokens ≡ name ∷ one → IsTrue (is_name name) → IsAfter (is_word (codes "in")) one two
-    → IsAfter (is_word (codes "range")) two three → IsAfter (is_symbol (codes "(")) three four → IsRangeFront tokens name four
-range_front tokens one two three four name is named behind behind' behind'' = record {
-  in_word = behind.0;
-  range = behind'.0;
-  opening = behind''.0;
-  there = is ∙ ap (λ (us : List Token). name ∷ us) (behind.1 ∙ ap (λ (us : List Token). behind.0 ∷ us) (behind'.1 ∙ ap (λ (us : List Token). behind'.0 ∷ us) behind''.1));
-  named = named;
-  is_in = behind.2;
-  is_range = behind'.2;
-  mark = behind''.2;
-}
-
-pub no_range : (tokens tail : List Token) (name : Token) → IsRangeFront tokens name tail → IsOnlyBefore SpellsBounds (codes ")") tail None → IsOnlyBeginning SpellsRange tokens None
+pub no_range : (tokens tail : List Token) (name : Token) → OpensRange tokens name tail → IsOnlyBefore SpellsBounds (codes ")") tail None → IsOnlyBeginning SpellsRange tokens None
 no_range tokens tail name front only p left begins =
     let r = range_reads tokens left p begins in
     let there = r.there in
@@ -167,7 +149,7 @@ no_range tokens tail name front only p left begins =
     let same : r.tail ≡ tail = cc in
     none_closed SpellsBounds (is_symbol (codes ")")) tail only p.1 left (subst (λ (us : List Token). Begins (Closed (is_symbol (codes ")")) SpellsBounds) us p.1 left) same r.bounds)
 
-pub open_range : (tokens tail rest : List Token) (name : Token) (es : List Expr) → IsRangeFront tokens name tail → IsOnlyBefore SpellsBounds (codes ")") tail (Some (es, rest))
+pub open_range : (tokens tail rest : List Token) (name : Token) (es : List Expr) → OpensRange tokens name tail → IsOnlyBefore SpellsBounds (codes ")") tail (Some (es, rest))
     → IsNotFirst (is_symbol (codes ")")) rest → IsOnlyBeginning SpellsRange tokens None
 open_range tokens tail rest name es front only apart p left begins =
     let r = range_reads tokens left p begins in
@@ -179,7 +161,7 @@ open_range tokens tail rest name es front only apart p left begins =
 same_pair : (p : List ℕ × List Expr) (text : List ℕ) (es : List Expr) → p.0 ≡ text → p.1 ≡ es → p ≡ (text, es)
 same_pair p text es word same = ap (λ (z : List ℕ). (z, p.1)) word ∙ ap (λ (zs : List Expr). (text, zs)) same
 
-pub only_range : (tokens tail rest after : List Token) (name : Token) (text : List ℕ) (es : List Expr) → IsRangeFront tokens name tail → text ≡ name.text
+pub only_range : (tokens tail rest after : List Token) (name : Token) (text : List ℕ) (es : List Expr) → OpensRange tokens name tail → text ≡ name.text
     → IsOnlyBefore SpellsBounds (codes ")") tail (Some (es, rest)) → IsAfter (is_symbol (codes ")")) rest after → IsOnlyBeginning SpellsRange tokens (Some ((text, es), after))
 only_range tokens tail rest after name text es front text_is only behind p left begins =
     let r = range_reads tokens left p begins in
@@ -192,7 +174,7 @@ only_range tokens tail rest after name text es front text_is only behind p left 
     let same_bounds : ◌≡◌ {A = List Expr} p.1 es = was.0 in
     (same_pair p text es word same_bounds, was.1)
 
-pub range_found : (tokens tail rest after : List Token) (name : Token) (text : List ℕ) (es : List Expr) → IsRangeFront tokens name tail → text ≡ name.text → Begins SpellsBounds tail es rest
+pub range_found : (tokens tail rest after : List Token) (name : Token) (text : List ℕ) (es : List Expr) → OpensRange tokens name tail → text ≡ name.text → Begins SpellsBounds tail es rest
     → IsAfter (is_symbol (codes ")")) rest after → Begins SpellsRange tokens (text, es) after
 range_found tokens tail rest after name text es front text_is begins behind =
     let closed = front_closed tail begins.0 rest after behind.0 begins.1 behind.1 in

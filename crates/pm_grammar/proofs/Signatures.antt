@@ -1,7 +1,6 @@
 -- Parameters one after the other, as a signature is read.
 use Rattle.std.proofs.Common.{◌≡◌, ◌∙◌, ◌⊎◌, ◌∷◌, ◌++◌, ℕ, Bool, true, false, IsTrue, List, [], codes, append_assoc, Option, Some, None, refl, sym, ap, subst, inl, inr}
 use Rattle.std.proofs.lemmas.Bool.{both_ways, or_left, or_right}
-use Rattle.std.proofs.lemmas.Option.{none-some, same_Some, some_pair_parts}
 use Rattle.pm_syn.specs.declared.expression.Expr.{Expr}
 use Rattle.pm_syn.specs.declared.statement.Par.{Par}
 use Rattle.pm_syn.specs.declared.statement.Stmt.{Stmt}
@@ -9,16 +8,13 @@ use Rattle.pm_syn.specs.declared.statement.Stmt.TheViews as stmt
 use Rattle.pm_syn.specs.declared.token.Token.{Token}
 use Rattle.pm_grammar.specs.Prefixes.{IsAfter, IsNotFirst, begins_with}
 use Rattle.pm_grammar.specs.Brackets.{ends_argument}
-use Rattle.pm_grammar.specs.Headers.{IsOnlyParameter, IsSignature, SpellsDefinition, SpellsFunctionEnd, definition, function_end}
+use Rattle.pm_grammar.specs.Headers.{IsOnlyOptional, IsSignature, SpellsDefinition, SpellsFunctionEnd, definition, function_end}
 use Rattle.pm_grammar.specs.Tokens.{is_symbol, is_name, is_word}
-use Rattle.pm_grammar.specs.Reading.{Begins, Ends, IsOnlyBefore, IsRead}
+use Rattle.pm_grammar.specs.Reading.{Begins, Ends, IsOnlyBefore, IsOnlyUpTo, IsRead}
 use Rattle.pm_grammar.specs.Statements.{SpellsEnd, SpellsOptional, SpellsParameter, SpellsParameters, SpellsResult, SpellsSignature, absent, and_parameter, itself, parameter, parameters_comma, present, with_parameters, without_parameters}
 use Rattle.pm_grammar.specs.declared.level.Level.TheVariants as level
 use Rattle.pm_grammar.proofs.OneSymbol.{argument_ends, ends_equals, mark_no_name, mark_no_word, no_argument_end, other_mark}
-use Rattle.pm_grammar.proofs.Headers.{none_before_end, only_before_end, read_none, read_some}
-
-pair_is : {A B : Type 0} (pair : A × B) (a : A) (b : B) → pair.0 ≡ a → pair.1 ≡ b → pair ≡ (a, b)
-pair_is {A} {B} pair a b first second = ap (λ (x : A). (x, pair.1)) first ∙ ap (λ (y : B). (a, y)) second
+use Rattle.pm_grammar.proofs.Headers.{none_before_end, only_before_end, pair_is}
 
 -- ---- where a parameter ends
 
@@ -34,9 +30,9 @@ note_ends (present sign ts e sign_is inner) next rest is = (other_mark (codes "=
 abbrev par_of : List ℕ → Option Expr → Option Expr → Par
 par_of text note default = record { name = text; note = note; default = default }
 
--- each optional expression with which the tokens begin, and that doesn't continue after it, was read
-abbrev pub IsOnlyOptional : List ℕ → List Token → Option (Option Expr × List Token) → Type 0
-IsOnlyOptional bytes all read = (one : Option Expr) (rest : List Token) → Begins (SpellsOptional bytes) all one rest → IsNotFirst (is_symbol bytes) rest → Ends level.Conditional rest → IsRead read one rest
+-- each parameter that a comma or a closing parenthesis follows was read
+abbrev pub IsOnlyParameter : List Token → Option (Par × List Token) → Type 0
+IsOnlyParameter = IsOnlyUpTo SpellsParameter ends_argument
 
 -- the parts of a parameter after its name
 abbrev IsParameterBehind : Token → List Token → Par → Token → List Token → Type 0
@@ -61,31 +57,25 @@ note_read all tail name read front only one next rest is begins =
     let ends = note_ends behind.5 next rest is in
     (behind, only behind.0 (behind.2 ++ (next ∷ rest)) behind.4 ends.0 ends.1)
 
-pub no_note : (all tail : List Token) (name : Token) (read : Option (Option Expr × List Token)) → all ≡ name ∷ tail → IsOnlyOptional (codes ":") tail read → read ≡ None → IsOnlyParameter all None
-no_note all tail name read front only none one next rest is begins =
-    let here = note_read all tail name read front only one next rest is begins in
-    read_none read here.0.0 _ none here.1
+pub no_note : (all tail : List Token) (name : Token) → all ≡ name ∷ tail → IsOnlyOptional (codes ":") tail None → IsOnlyParameter all None
+no_note all tail name front only one next rest is begins = (note_read all tail name None front only one next rest is begins).1
 
-default_read : (all tail mid : List Token) (name : Token) (note : Option Expr) (read also : Option (Option Expr × List Token)) → all ≡ name ∷ tail → IsOnlyOptional (codes ":") tail read → read ≡ Some (note, mid)
-    → IsOnlyOptional (codes "=") mid also → (one : Par) (next : Token) (rest : List Token) → IsTrue (ends_argument next) → Begins SpellsParameter all one (next ∷ rest)
-    → (default : Option Expr) × (one ≡ par_of name.text note default) × IsRead also default (next ∷ rest)
-default_read all tail mid name note read also front only some then_only one next rest is begins =
-    let here = note_read all tail name read front only one next rest is begins in
-    let same = read_some read here.0.0 note (here.0.2 ++ (next ∷ rest)) mid some here.1 in
+default_read : (all tail mid : List Token) (name : Token) (note : Option Expr) (read : Option (Option Expr × List Token)) → all ≡ name ∷ tail → IsOnlyOptional (codes ":") tail (Some (note, mid))
+    → IsOnlyOptional (codes "=") mid read → (one : Par) (next : Token) (rest : List Token) → IsTrue (ends_argument next) → Begins SpellsParameter all one (next ∷ rest)
+    → (default : Option Expr) × (one ≡ par_of name.text note default) × IsRead read default (next ∷ rest)
+default_read all tail mid name note read front only then_only one next rest is begins =
+    let here = note_read all tail name (Some (note, mid)) front only one next rest is begins in
+    let same = here.1 in
     (here.0.1, here.0.3 ∙ ap (λ (n : Option Expr). par_of name.text n here.0.1) same.0, then_only here.0.1 (next ∷ rest) (here.0.2, sym same.1, here.0.5) (no_argument_end (codes "=") next refl refl is) (argument_ends next is))
 
-pub no_default : (all tail mid : List Token) (name : Token) (note : Option Expr) (read also : Option (Option Expr × List Token)) → all ≡ name ∷ tail → IsOnlyOptional (codes ":") tail read → read ≡ Some (note, mid)
-    → IsOnlyOptional (codes "=") mid also → also ≡ None → IsOnlyParameter all None
-no_default all tail mid name note read also front only some then_only none one next rest is begins =
-    let here = default_read all tail mid name note read also front only some then_only one next rest is begins in
-    read_none also here.0 _ none here.2
+pub no_default : (all tail mid : List Token) (name : Token) (note : Option Expr) → all ≡ name ∷ tail → IsOnlyOptional (codes ":") tail (Some (note, mid)) → IsOnlyOptional (codes "=") mid None → IsOnlyParameter all None
+no_default all tail mid name note front only then_only one next rest is begins = (default_read all tail mid name note None front only then_only one next rest is begins).2
 
-pub only_parameter : (all tail mid behind : List Token) (name : Token) (text : List ℕ) (note default : Option Expr) (read also : Option (Option Expr × List Token)) → all ≡ name ∷ tail → IsOnlyOptional (codes ":") tail read → read ≡ Some (note, mid)
-    → IsOnlyOptional (codes "=") mid also → also ≡ Some (default, behind) → text ≡ name.text → IsOnlyParameter all (Some (record { name = text; note = note; default = default }, behind))
-only_parameter all tail mid behind name text note default read also front only some then_only then_some same one next rest is begins =
-    let here = default_read all tail mid name note read also front only some then_only one next rest is begins in
-    let read_there = read_some also here.0 default (next ∷ rest) behind then_some here.2 in
-    (here.1 ∙ ap (λ (d : Option Expr). par_of name.text note d) read_there.0 ∙ ap (λ (t : List ℕ). par_of t note default) (sym same), read_there.1)
+pub only_parameter : (all tail mid behind : List Token) (name : Token) (text : List ℕ) (note default : Option Expr) → all ≡ name ∷ tail → IsOnlyOptional (codes ":") tail (Some (note, mid))
+    → IsOnlyOptional (codes "=") mid (Some (default, behind)) → text ≡ name.text → IsOnlyParameter all (Some (record { name = text; note = note; default = default }, behind))
+only_parameter all tail mid behind name text note default front only then_only same one next rest is begins =
+    let here = default_read all tail mid name note (Some (default, behind)) front only then_only one next rest is begins in
+    (here.1 ∙ ap (λ (d : Option Expr). par_of name.text note d) here.2.0 ∙ ap (λ (t : List ℕ). par_of t note default) (sym same), here.2.1)
 
 pub parameter_found : (all tail mid behind : List Token) (name : Token) (text : List ℕ) (note default : Option Expr) → (all ≡ name ∷ tail) × IsTrue (is_name name) → Begins (SpellsOptional (codes ":")) tail note mid
     → Begins (SpellsOptional (codes "=")) mid default behind → text ≡ name.text → Begins SpellsParameter all (record { name = text; note = note; default = default }) behind
@@ -241,17 +231,15 @@ next_read all here behind ps read going comma not_begun only one closing rest is
       ]
     ]
 
-pub no_next : (all here behind : List Token) (ps : List Par) (read : Option (Par × List Token)) → IsGoingOn all ps here → IsAfter (is_symbol (codes ",")) here behind → begins_with (is_symbol (codes ")")) behind ≡ false → IsOnlyParameter behind read
-    → read ≡ None → IsOnlyBefore IsSignature (codes ")") all None
-no_next all here behind ps read going comma not_begun only none one closing rest is begins =
-    let there = next_read all here behind ps read going comma not_begun only one closing rest is begins in
-    read_none read there.0 there.1 none there.3
+pub no_next : (all here behind : List Token) (ps : List Par) → IsGoingOn all ps here → IsAfter (is_symbol (codes ",")) here behind → begins_with (is_symbol (codes ")")) behind ≡ false → IsOnlyParameter behind None
+    → IsOnlyBefore IsSignature (codes ")") all None
+no_next all here behind ps going comma not_begun only one closing rest is begins = (next_read all here behind ps None going comma not_begun only one closing rest is begins).3
 
-pub goes_next : (all here behind next : List Token) (ps : List Par) (p : Par) (read : Option (Par × List Token)) → IsGoingOn all ps here → IsAfter (is_symbol (codes ",")) here behind → begins_with (is_symbol (codes ")")) behind ≡ false → IsOnlyParameter behind read
-    → read ≡ Some (p, next) → IsGoingOn all (ps ++ p ∷ []) next
-goes_next all here behind next ps p read going comma not_begun only some one closing rest is begins =
-    let there = next_read all here behind ps read going comma not_begun only one closing rest is begins in
-    let same = read_some read there.0 p there.1 next some there.3 in
+pub goes_next : (all here behind next : List Token) (ps : List Par) (p : Par) → IsGoingOn all ps here → IsAfter (is_symbol (codes ",")) here behind → begins_with (is_symbol (codes ")")) behind ≡ false → IsOnlyParameter behind (Some (p, next))
+    → IsGoingOn all (ps ++ p ∷ []) next
+goes_next all here behind next ps p going comma not_begun only one closing rest is begins =
+    let there = next_read all here behind ps (Some (p, next)) going comma not_begun only one closing rest is begins in
+    let same = there.3 in
     (there.2, subst (λ (ts : List Token). GoesOn (ps ++ p ∷ []) ts one.1 (closing ∷ rest)) same.1 (subst (λ (q : Par). GoesOn (ps ++ q ∷ []) there.1 one.1 (closing ∷ rest)) same.0 there.4))
 
 pub next_found : (all here behind next : List Token) (ps : List Par) (p : Par) → Begins SpellsParameters all ps here → IsAfter (is_symbol (codes ",")) here behind → Begins SpellsParameter behind p next → Begins SpellsParameters all (ps ++ p ∷ []) next
@@ -264,33 +252,20 @@ next_found all here behind next ps p begins comma spelled =
 function_end_is : {closing : Token} {ts : List Token} {result : Option Expr} {body : Option Stmt} → SpellsFunctionEnd (closing ∷ ts) result body → (rest : List Token) × Begins SpellsResult ts result rest × SpellsEnd rest body
 function_end_is (function_end closing ts rest result body is begins ends) = (rest, begins, ends)
 
-function_end_behind : (all behind : List Token) → IsAfter (is_symbol (codes ")")) all behind → (result : Option Expr) (body : Option Stmt) → SpellsFunctionEnd all result body → (rest : List Token) × Begins SpellsResult behind result rest × SpellsEnd rest body
+pub function_end_behind : (all behind : List Token) → IsAfter (is_symbol (codes ")")) all behind → (result : Option Expr) (body : Option Stmt) → SpellsFunctionEnd all result body → (rest : List Token) × Begins SpellsResult behind result rest × SpellsEnd rest body
 function_end_behind all behind closing result body is = function_end_is (subst (λ (ts : List Token). SpellsFunctionEnd ts result body) closing.1 is)
 
-pub no_result : (all behind : List Token) (read : Option (Option Expr × List Token)) → IsAfter (is_symbol (codes ")")) all behind → IsOnlyBefore SpellsResult (codes ":") behind read → read ≡ None
-    → (result : Option Expr) (body : Option Stmt) → SpellsFunctionEnd all result body → ◌≡◌ {A = Option (Option Expr × Option Stmt)} None (Some (result, body))
-no_result all behind read closing only none result body is =
+pub no_result : (all behind : List Token) → IsAfter (is_symbol (codes ")")) all behind → IsOnlyBefore SpellsResult (codes ":") behind None
+    → (result : Option Expr) (body : Option Stmt) → SpellsFunctionEnd all result body → ⊥
+no_result all behind closing only result body is =
     let parts = function_end_behind all behind closing result body is in
-    absurd (none_before_end SpellsResult behind read only none result parts.0 body parts.1 parts.2)
+    none_before_end SpellsResult behind only result parts.0 body parts.1 parts.2
 
-function_end_parts : (all behind rest : List Token) (result : Option Expr) (read : Option (Option Expr × List Token)) (end : Option (Option Stmt)) → IsAfter (is_symbol (codes ")")) all behind → IsOnlyBefore SpellsResult (codes ":") behind read → read ≡ Some (result, rest)
-    → ((body : Option Stmt) → SpellsEnd rest body → end ≡ Some body) → (one : Option Expr) (body : Option Stmt) → SpellsFunctionEnd all one body → (one ≡ result) × (end ≡ Some body)
-function_end_parts all behind rest result read end closing only some only_end one body is =
+pub function_end_parts : (all behind rest : List Token) (result : Option Expr) → IsAfter (is_symbol (codes ")")) all behind → IsOnlyBefore SpellsResult (codes ":") behind (Some (result, rest))
+    → (one : Option Expr) (body : Option Stmt) → SpellsFunctionEnd all one body → (one ≡ result) × SpellsEnd rest body
+function_end_parts all behind rest result closing only one body is =
     let parts = function_end_behind all behind closing one body is in
-    only_before_end SpellsResult behind rest result read end only some only_end one parts.0 body parts.1 parts.2
-
-pub no_function_end : (all behind rest : List Token) (result : Option Expr) (read : Option (Option Expr × List Token)) (end : Option (Option Stmt)) → IsAfter (is_symbol (codes ")")) all behind → IsOnlyBefore SpellsResult (codes ":") behind read → read ≡ Some (result, rest)
-    → ((body : Option Stmt) → SpellsEnd rest body → end ≡ Some body) → end ≡ None → (one : Option Expr) (body : Option Stmt) → SpellsFunctionEnd all one body → ◌≡◌ {A = Option (Option Expr × Option Stmt)} None (Some (one, body))
-no_function_end all behind rest result read end closing only some only_end none one body is =
-    let parts = function_end_parts all behind rest result read end closing only some only_end one body is in
-    absurd (none-some body (sym none ∙ parts.1))
-
-pub function_end_only : (all behind rest : List Token) (result : Option Expr) (body : Option Stmt) (read : Option (Option Expr × List Token)) (end : Option (Option Stmt)) → IsAfter (is_symbol (codes ")")) all behind → IsOnlyBefore SpellsResult (codes ":") behind read → read ≡ Some (result, rest)
-    → ((body : Option Stmt) → SpellsEnd rest body → end ≡ Some body) → end ≡ Some body → (one : Option Expr) (other : Option Stmt) → SpellsFunctionEnd all one other → ◌≡◌ {A = Option (Option Expr × Option Stmt)} (Some (result, body)) (Some (one, other))
-function_end_only all behind rest result body read end closing only some only_end some_end one other is =
-    let parts = function_end_parts all behind rest result read end closing only some only_end one other is in
-    let same : body ≡ other = same_Some body other (sym some_end ∙ parts.1) in
-    rw (parts.0, same) refl
+    only_before_end SpellsResult behind rest result only one parts.0 body parts.1 parts.2
 
 pub function_end_found : (all behind rest : List Token) (result : Option Expr) (body : Option Stmt) → IsAfter (is_symbol (codes ")")) all behind → Begins SpellsResult behind result rest → SpellsEnd rest body → SpellsFunctionEnd all result body
 function_end_found all behind rest result body closing begins ends = subst (λ (ts : List Token). SpellsFunctionEnd ts result body) (sym closing.1) (function_end closing.0 behind rest result body closing.2 begins ends)
@@ -320,35 +295,27 @@ signature_read all tail behind name read front opening only s is =
     let there = definition_is (subst (λ (ts : List Token). SpellsDefinition ts s) same is) in
     (there.0, there.1, there.2, there.3, there.4, there.5, read_before_end behind read only (there.1, there.2) there.0 there.3 there.4 there.6 there.7, there.7)
 
-pub no_signature : (all tail behind : List Token) (name : Token) (read : Option ((Bool × List Par) × List Token)) → all ≡ name ∷ tail → IsAfter (is_symbol (codes "(")) tail behind → IsOnlyBefore IsSignature (codes ")") behind read → read ≡ None
-    → (s : Stmt) → SpellsDefinition all s → None ≡ Some s
-no_signature all tail behind name read front opening only none s is =
-    let there = signature_read all tail behind name read front opening only s is in
-    absurd (read_none read (there.1, there.2) there.0 none there.6)
+pub no_signature : (all tail behind : List Token) (name : Token) → all ≡ name ∷ tail → IsAfter (is_symbol (codes "(")) tail behind → IsOnlyBefore IsSignature (codes ")") behind None
+    → (s : Stmt) → SpellsDefinition all s → ⊥
+no_signature all tail behind name front opening only s is = (signature_read all tail behind name None front opening only s is).6
 
-definition_parts : (all tail behind rest : List Token) (name : Token) (has_self : Bool) (ps : List Par) (read : Option ((Bool × List Par) × List Token)) (end : Option (Option Expr × Option Stmt)) → all ≡ name ∷ tail → IsAfter (is_symbol (codes "(")) tail behind
-    → IsOnlyBefore IsSignature (codes ")") behind read → read ≡ Some ((has_self, ps), rest) → ((result : Option Expr) (body : Option Stmt) → SpellsFunctionEnd rest result body → end ≡ Some (result, body))
-    → (s : Stmt) → SpellsDefinition all s → (result : Option Expr) × (body : Option Stmt) × (s ≡ stmt.Def name.text has_self ps result body) × (end ≡ Some (result, body))
-definition_parts all tail behind rest name has_self ps read end front opening only some only_end s is =
-    let there = signature_read all tail behind name read front opening only s is in
-    let same = read_some read (there.1, there.2) (has_self, ps) there.0 rest some there.6 in
-    let made : s ≡ stmt.Def name.text has_self ps there.3 there.4 = there.5 ∙ ap (λ (signature : Bool × List Par). stmt.Def name.text signature.0 signature.1 there.3 there.4) same.0 in
-    (there.3, there.4, made, only_end there.3 there.4 (subst (λ (ts : List Token). SpellsFunctionEnd ts there.3 there.4) same.1 there.7))
+-- the signature was read, and the end of the header comes after it
+pub definition_parts : (all tail behind rest : List Token) (name : Token) (signature : Bool × List Par) → all ≡ name ∷ tail → IsAfter (is_symbol (codes "(")) tail behind
+    → IsOnlyBefore IsSignature (codes ")") behind (Some (signature, rest)) → (s : Stmt) → SpellsDefinition all s
+    → (result : Option Expr) × (body : Option Stmt) × (s ≡ stmt.Def name.text signature.0 signature.1 result body) × SpellsFunctionEnd rest result body
+definition_parts all tail behind rest name signature front opening only s is =
+    let there = signature_read all tail behind name (Some (signature, rest)) front opening only s is in
+    let same = there.6 in
+    let made : s ≡ stmt.Def name.text signature.0 signature.1 there.3 there.4 = there.5 ∙ ap (λ (one : Bool × List Par). stmt.Def name.text one.0 one.1 there.3 there.4) same.0 in
+    (there.3, there.4, made, subst (λ (ts : List Token). SpellsFunctionEnd ts there.3 there.4) same.1 there.7)
 
-pub no_definition : (all tail behind rest : List Token) (name : Token) (has_self : Bool) (ps : List Par) (read : Option ((Bool × List Par) × List Token)) (end : Option (Option Expr × Option Stmt)) → all ≡ name ∷ tail → IsAfter (is_symbol (codes "(")) tail behind
-    → IsOnlyBefore IsSignature (codes ")") behind read → read ≡ Some ((has_self, ps), rest) → ((result : Option Expr) (body : Option Stmt) → SpellsFunctionEnd rest result body → end ≡ Some (result, body)) → end ≡ None
-    → (s : Stmt) → SpellsDefinition all s → None ≡ Some s
-no_definition all tail behind rest name has_self ps read end front opening only some only_end none s is =
-    let parts = definition_parts all tail behind rest name has_self ps read end front opening only some only_end s is in
-    absurd (none-some (parts.0, parts.1) (sym none ∙ parts.3))
-
-pub definition_only : (all tail behind rest : List Token) (name : Token) (text : List ℕ) (has_self : Bool) (ps : List Par) (result : Option Expr) (body : Option Stmt) (read : Option ((Bool × List Par) × List Token)) (end : Option (Option Expr × Option Stmt)) → all ≡ name ∷ tail → IsAfter (is_symbol (codes "(")) tail behind
-    → IsOnlyBefore IsSignature (codes ")") behind read → read ≡ Some ((has_self, ps), rest) → ((result : Option Expr) (body : Option Stmt) → SpellsFunctionEnd rest result body → end ≡ Some (result, body)) → end ≡ Some (result, body) → text ≡ name.text
-    → (s : Stmt) → SpellsDefinition all s → Some (stmt.Def text has_self ps result body) ≡ Some s
-definition_only all tail behind rest name text has_self ps result body read end front opening only some only_end some_end same s is =
-    let parts = definition_parts all tail behind rest name has_self ps read end front opening only some only_end s is in
-    let ends = some_pair_parts result parts.0 body parts.1 (sym some_end ∙ parts.3) in
-    rw (parts.2, same, ends.0, ends.1) refl
+pub definition_only : (all tail behind rest : List Token) (name : Token) (text : List ℕ) (signature : Bool × List Par) (result : Option Expr) (body : Option Stmt) → all ≡ name ∷ tail → IsAfter (is_symbol (codes "(")) tail behind
+    → IsOnlyBefore IsSignature (codes ")") behind (Some (signature, rest)) → ((end : Option Expr × Option Stmt) → SpellsFunctionEnd rest end.0 end.1 → end ≡ (result, body)) → text ≡ name.text
+    → (s : Stmt) → SpellsDefinition all s → s ≡ stmt.Def text signature.0 signature.1 result body
+definition_only all tail behind rest name text signature result body front opening only only_end same s is =
+    let parts = definition_parts all tail behind rest name signature front opening only s is in
+    parts.2 ∙ ap (λ (end : Option Expr × Option Stmt). stmt.Def name.text signature.0 signature.1 end.0 end.1) (only_end (parts.0, parts.1) parts.3)
+    ∙ ap (λ (t : List ℕ). stmt.Def t signature.0 signature.1 result body) (sym same)
 
 pub definition_found : (all tail behind rest : List Token) (name : Token) (text : List ℕ) (has_self : Bool) (ps : List Par) (result : Option Expr) (body : Option Stmt) → (all ≡ name ∷ tail) × IsTrue (is_name name) → IsAfter (is_symbol (codes "(")) tail behind
     → Begins IsSignature behind (has_self, ps) rest → SpellsFunctionEnd rest result body → text ≡ name.text → SpellsDefinition all (stmt.Def text has_self ps result body)

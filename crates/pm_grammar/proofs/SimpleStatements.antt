@@ -1,5 +1,5 @@
 -- What the tokens of a simple statement spell, by what comes first and after its first expression.
-use Rattle.std.proofs.Common.{arith, ◌≡◌, ◌⊎◌, ◌∙◌, ◌++◌, Bool, true, false, if◌then◌else◌, ℕ, IsTrue, IfSome, MatchBool, ◌<◌, List, length, ◌==◌, [], ◌∷◌, codes, Option, Some, None, Result, Ok, Err, IfOk, Bor, refl, sym, ap, subst, inl, inr, append-nil}
+use Rattle.std.proofs.Common.{arith, ◌≡◌, ◌⊎◌, ◌∙◌, ◌++◌, Bool, true, false, if◌then◌else◌, ℕ, IsTrue, MatchBool, ◌<◌, List, length, ◌==◌, [], ◌∷◌, codes, Option, Some, None, refl, sym, ap, subst, inl, inr, append-nil}
 use Rattle.std.proofs.Math.Path.{subst₂}
 use Rattle.std.specs.List.{AllWithin, HoldsAt}
 use Rattle.std.proofs.lemmas.Iterator.Search.{true_from_All}
@@ -14,11 +14,10 @@ use Rattle.pm_syn.specs.declared.token.Token.{Token}
 use Rattle.pm_syn.specs.declared.token.TokenKind.{TokenKind}
 use Rattle.pm_syn.specs.declared.token.TokenKind.TheVariants as kind
 use Rattle.pm_grammar.specs.ExpressionStatements.{EndsAssertion, SpellsAfter, SpellsWithExpression}
-use Rattle.pm_grammar.specs.Expressions.{Spells}
 use Rattle.pm_grammar.specs.Prefixes.{IsAfter, IsNotFirst, begins_with}
 use Rattle.pm_syn.specs.Names.{is_keyword}
 use Rattle.pm_grammar.specs.Tokens.{is_symbol, is_word}
-use Rattle.pm_grammar.specs.Reading.{Begins, Ends, IsOnly, read_of}
+use Rattle.pm_grammar.specs.Reading.{Begins, Ends, IsOnly}
 use Rattle.pm_grammar.specs.Statements.{AreStrings, IsExpression, SpellsSimple, assignment_of}
 use Rattle.pm_grammar.specs.declared.level.Level.TheVariants as level
 use Rattle.pm_grammar.proofs.ExpressionStarts.{begins_more, no_expression-word, opens, opens_expression}
@@ -27,17 +26,6 @@ use Rattle.pm_grammar.proofs.StatementStarts.{no_simple_in}
 use Rattle.pm_grammar.proofs.TokenTexts.{by_mark, by_string, by_word, like}
 
 -- ---- what an expression was read as
-
-pub found_some : (all : List Token) (o : Option (Expr × Bor (List Token))) (tree : Expr) (rest : Bor (List Token)) → o ≡ Some (tree, rest)
-    → IfSome o (λ p. Begins (Spells level.Conditional) all p.0 p.1.now) → Begins IsExpression all tree rest.now
-found_some all o tree rest is found = subst (λ o. IfSome o (λ p. Begins (Spells level.Conditional) all p.0 p.1.now)) is found
-
-pub only_none : (all : List Token) (o : Option (Expr × Bor (List Token))) → o ≡ None → IsOnly level.Conditional all (read_of o) → IsOnly level.Conditional all None
-only_none all o is only = subst (λ o. IsOnly level.Conditional all (read_of o)) is only
-
-pub only_some : (all : List Token) (o : Option (Expr × Bor (List Token))) (tree : Expr) (rest : Bor (List Token)) → o ≡ Some (tree, rest)
-    → IsOnly level.Conditional all (read_of o) → IsOnly level.Conditional all (Some (tree, rest.now))
-only_some all o tree rest is only = subst (λ o. IsOnly level.Conditional all (read_of o)) is only
 
 -- an expression that all of the tokens spell was read
 pub whole_some : (all rest : List Token) (tree : Expr) → IsOnly level.Conditional all (Some (tree, rest)) → (e : Expr) → IsExpression all e → (e ≡ tree) × ([] ≡ rest)
@@ -62,33 +50,6 @@ no_tokens-length (t ∷ ts) is = absurd (omega (arith, is))
 
 pub some_tokens : (ts : List Token) → false ≡ (length ts == 0) → ts ≡ [] → ⊥
 some_tokens ts is none = eqb-false (length ts) 0 (sym is) (ap length none)
-
-pub value_found : (all : List Token) (o : Option Expr) (e : Expr) → o ≡ Some e → IfSome o (λ e. IsExpression all e) → IsExpression all e
-value_found all o e is found = subst (λ o. IfSome o (λ e. IsExpression all e)) is found
-
--- one value was read, and the statement is made of it
-pub same_made : (made : Expr → Stmt) (o : Option Expr) (one other : Expr) (s : Stmt) → o ≡ Some one → o ≡ Some other → s ≡ made other → Some (made one) ≡ Some s
-same_made made o one other s is too so = let same : one ≡ other = cc in ap Some (ap made same ∙ sym so)
-
-pub none_read : (o : Option Expr) (e : Expr) → o ≡ None → o ≡ Some e → ⊥
-none_read o e is too = cc
-
--- what was read is what the other relation spells
-pub found_as : {E : Type 0} (P Q : Stmt → Type 0) → ((s : Stmt) → P s → Q s) → (r : Result (Option Stmt) E) → IfOk r (λ o. IfSome o P) → IfOk r (λ o. IfSome o Q)
-found_as P Q moved (Ok (Some s)) found = moved s found
-found_as P Q moved (Ok None) found = found
-found_as P Q moved (Err e) found = found
-
-pub only_as : {E : Type 0} (P Q : Stmt → Type 0) → ((s : Stmt) → Q s → P s) → (r : Result (Option Stmt) E) → IfOk r (λ o. (s : Stmt) → P s → o ≡ Some s)
-    → IfOk r (λ o. (s : Stmt) → Q s → o ≡ Some s)
-only_as P Q moved (Ok o) only = λ s is. only s (moved s is)
-only_as P Q moved (Err e) only = only
-
--- what was read after the token is what was read
-pub only_after : {E : Type 0} (Q : Stmt → Type 0) (Mark : Token → Type 0) (P : Token → Stmt → Type 0) (t : Token) → Mark t → ((s : Stmt) → Q s → P t s)
-    → (r : Result (Option Stmt) E) → IfOk r (λ o. (s : Stmt) (t : Token) → Mark t → P t s → o ≡ Some s) → IfOk r (λ o. (s : Stmt) → Q s → o ≡ Some s)
-only_after Q Mark P t mark moved (Ok o) only = λ s is. only s t mark (moved s is)
-only_after Q Mark P t mark moved (Err e) only = only
 
 -- ---- the symbols of assignments
 
@@ -224,6 +185,16 @@ assigned_only target ts op other s sign assigns behind = go (assigned_is target 
   go : IsAssigned op target ts s ⊎ IsLambda op target ts s → IsAssigned op target ts s
   go (inl is) = is
   go (inr is) = absurd (both_ways (is_word (codes "lambda") is.0) (subst (IsNotFirst (is_word (codes "lambda"))) is.3 (other is.2)) is.4)
+
+join_sign : (sign : Token) → assignment_of sign ≡ Some assign.Join → IsTrue (is_symbol (codes "//=") sign)
+join_sign sign is =
+    by_assignment (λ (t : Token). assignment_of t ≡ Some assign.Join → IsTrue (is_symbol (codes "//=") t)) sign assign.Join is (λ is. cc) (λ is. cc) (λ is. cc) (λ is. refl) is
+
+-- what is assigned is `lambda`, and what comes after it is joined
+pub lambda_joined : (target : Expr) (ts tail : List Token) (op : AssignOp) → op ≡ assign.Join → IsAfter (is_word (codes "lambda")) ts tail → (s : Stmt) (sign : Token) → assignment_of sign ≡ Some op → SpellsAfter target (sign ∷ ts) s
+    → (sign : Token) × (word : Token) × IsTrue (is_symbol (codes "//=") sign) × IsTrue (is_word (codes "lambda") word) × SpellsAfter target (sign ∷ word ∷ tail) s
+lambda_joined target ts tail op joins lambda s sign assigns behind =
+    (sign, lambda.0, join_sign sign (assigns ∙ ap Some joins), lambda.2, subst (λ (us : List Token). SpellsAfter target (sign ∷ us) s) lambda.1 behind)
 
 -- `lambda` is joined
 pub joined_only : (target : Expr) (ts : List Token) (s : Stmt) (sign word : Token) → IsTrue (is_symbol (codes "//=") sign) → IsTrue (is_word (codes "lambda") word)

@@ -6,8 +6,8 @@ use Rattle.pm_syn.specs.declared.expression.Expr.{Expr}
 use Rattle.pm_syn.specs.declared.expression.Expr.TheViews as expr
 use Rattle.pm_syn.specs.declared.token.Token.{Token}
 use Rattle.pm_grammar.specs.Expressions.{Spells}
-use Rattle.pm_grammar.specs.Reading.{Begins, Ends, IsOnly, is_suffix}
-use Rattle.pm_grammar.specs.Suffixes.{SpellsSuffix, IsOnlySuffix, begins_suffix}
+use Rattle.pm_grammar.specs.Reading.{Begins, Ends, IsOnly, IsOnlyBeginning, is_suffix}
+use Rattle.pm_grammar.specs.Suffixes.{SpellsSuffix, begins_suffix}
 use Rattle.pm_grammar.specs.declared.level.Level.TheVariants as level
 
 -- more suffixes after an expression
@@ -91,14 +91,14 @@ next_is : (a e : Expr) (rest us left : List Token) → begins_suffix rest ≡ tr
 next_is a _ rest _ left begins is ends (Suffixes.none _) = absurd (ended rest left begins is ends)
 next_is a e rest _ left begins is ends (Suffixes.next _ b _ ts vs suffix chain) = (ts, vs, b, is ∙ append_assoc ts vs left, suffix, chain)
 
-pub goes_suffix : (all rest after : List Token) (a b : Expr) → begins_suffix rest ≡ true → GoesOnSuffixes all a rest → IsOnlySuffix a rest (Some (b, after)) → GoesOnSuffixes all b after
+pub goes_suffix : (all rest after : List Token) (a b : Expr) → begins_suffix rest ≡ true → GoesOnSuffixes all a rest → IsOnlyBeginning (SpellsSuffix a) rest (Some (b, after)) → GoesOnSuffixes all b after
 goes_suffix all rest after a b there goes only e left begins ends =
     let on = goes e left begins ends in
     let next = next_is a e rest on.0 left there on.1 ends on.2 in
     let was = only next.2 (next.1 ++ left) (next.0, next.3, next.4) in
     (next.1, sym was.1, subst (λ (z : Expr). Suffixes z next.1 e) was.0 next.5)
 
-pub no_suffix : (all rest : List Token) (a : Expr) → begins_suffix rest ≡ true → GoesOnSuffixes all a rest → IsOnlySuffix a rest None → IsOnly level.Postfix all None
+pub no_suffix : (all rest : List Token) (a : Expr) → begins_suffix rest ≡ true → GoesOnSuffixes all a rest → IsOnlyBeginning (SpellsSuffix a) rest None → IsOnly level.Postfix all None
 no_suffix all rest a there goes only e left begins ends =
     let on = goes e left begins ends in
     let next = next_is a e rest on.0 left there on.1 ends on.2 in

@@ -12,7 +12,7 @@ use Rattle.pm_grammar.specs.Expressions.{Spells, SpellsArguments}
 use Rattle.pm_grammar.specs.Prefixes.{IsAfter, IsNotFirst}
 use Rattle.pm_grammar.specs.Tokens.{is_symbol, is_name}
 use Rattle.pm_grammar.specs.Reading.{Begins, IsOnly, IsOnlyBefore, IsOnlyBeginning, IsRead}
-use Rattle.pm_grammar.specs.Suffixes.{IsOnlySuffix, SpellsSuffix}
+use Rattle.pm_grammar.specs.Suffixes.{SpellsSuffix}
 use Rattle.pm_grammar.specs.declared.level.Level.TheVariants as level
 use Rattle.pm_grammar.proofs.OneSymbol.{ends_bracket, ends_colon}
 use Rattle.pm_grammar.proofs.TokenTexts.{of_mark}
@@ -266,7 +266,7 @@ begins_call all tokens rest after e arguments behind begins closing =
     )
 
 pub only_suffix_attribute : (all tokens : List Token) (e : Expr) (read : Option (Expr × List Token)) → IsAfter (is_symbol (codes ".")) all tokens → IsOnlyBeginning (SpellsAttribute e) tokens read
-    → IsOnlySuffix e all read
+    → IsOnlyBeginning (SpellsSuffix e) all read
 only_suffix_attribute all tokens e read behind only f left begins = elim (suffix_begins all tokens left behind.0 e f behind.1 begins) [
   | inl one ↦ only f left one.1
   | inr (inl one) ↦ absurd (one_mark (codes ".") (codes "(") behind.0 refl behind.2 one.0)
@@ -274,7 +274,7 @@ only_suffix_attribute all tokens e read behind only f left begins = elim (suffix
 ]
 
 pub only_suffix_call : (all tokens : List Token) (e : Expr) (read : Option (Expr × List Token)) → IsAfter (is_symbol (codes "(")) all tokens → IsOnlyBeginning (IsCall e) tokens read
-    → IsOnlySuffix e all read
+    → IsOnlyBeginning (SpellsSuffix e) all read
 only_suffix_call all tokens e read behind only f left begins = elim (suffix_begins all tokens left behind.0 e f behind.1 begins) [
   | inl one ↦ absurd (one_mark (codes "(") (codes ".") behind.0 refl behind.2 one.0)
   | inr (inl one) ↦ only f left one.1
@@ -282,7 +282,7 @@ only_suffix_call all tokens e read behind only f left begins = elim (suffix_begi
 ]
 
 pub only_suffix_place : (all tokens : List Token) (e : Expr) (read : Option (Expr × List Token)) → IsAfter (is_symbol (codes "[")) all tokens → IsOnlyBeginning (SpellsSubscript e) tokens read
-    → IsOnlySuffix e all read
+    → IsOnlyBeginning (SpellsSuffix e) all read
 only_suffix_place all tokens e read behind only f left begins = elim (suffix_begins all tokens left behind.0 e f behind.1 begins) [
   | inl one ↦ absurd (one_mark (codes "[") (codes ".") behind.0 refl behind.2 one.0)
   | inr (inl one) ↦ absurd (one_mark (codes "[") (codes "(") behind.0 refl behind.2 one.0)

@@ -1,15 +1,14 @@
 -- What one token spells, and what comes after an opening bracket or a dot, part by part, as the
 -- parser reads it.
-use Rattle.std.specs.Prelude.{◌≡◌, ◌≤◌, ◌++◌, ◌||◌, ℕ, Bool, true, false, IsTrue, List, [], ◌∷◌, codes, length, Option}
-use Rattle.pm_syn.specs.declared.expression.Arg.{Arg}
+use Rattle.std.specs.Prelude.{◌≡◌, ◌≤◌, ◌++◌, ◌||◌, ℕ, Bool, true, false, IsTrue, List, [], ◌∷◌, codes, length, Option, Some, None}
 use Rattle.pm_syn.specs.declared.expression.Expr.{Expr}
 use Rattle.pm_syn.specs.declared.expression.Expr as leaf
 use Rattle.pm_syn.specs.declared.expression.Expr.TheViews as expr
 use Rattle.pm_syn.specs.declared.token.Token.{Token}
 use Rattle.pm_syn.specs.declared.token.TokenKind.TheVariants as kind
-use Rattle.pm_grammar.specs.Expressions.{Spells, SpellsArgument, SpellsItems, SpellsRange, SpellsSequence}
-use Rattle.pm_grammar.specs.Tokens.{IsClosingBracket, IsClosingParenthesis, IsColon, IsComma, IsEqualSign, IsName, IsWord, is_symbol}
-use Rattle.pm_grammar.specs.Reading.{Begins, IsOnlyUpTo, IsRead}
+use Rattle.pm_grammar.specs.Expressions.{Spells, SpellsItems, SpellsRange, SpellsSequence}
+use Rattle.pm_grammar.specs.Tokens.{IsClosingBracket, IsClosingParenthesis, IsColon, IsComma, IsEqualSign, IsName, IsOpeningParenthesis, IsWord, is_symbol}
+use Rattle.pm_grammar.specs.Reading.{Begins, IsRead}
 use Rattle.pm_grammar.specs.declared.level.Level.TheVariants as level
 
 -- one token spells the expression
@@ -62,6 +61,17 @@ pub data SpellsSubscript (e : Expr) : List Token → Expr → Type 0 where
       → IsClosingBracket closing
       → SpellsSubscript e (ts ++ colon ∷ (us ++ closing ∷ [])) (expr.Slice e low high)
 
+-- `NAME in range(`, with this name, and what comes after it
+pub record OpensRange (tokens : List Token) (name : Token) (tail : List Token) : Type 0 where
+  pub in_word : Token
+  pub range : Token
+  pub opening : Token
+  pub there : tokens ≡ name ∷ in_word ∷ range ∷ opening ∷ tail
+  pub named : IsName name
+  pub is_in : IsWord (codes "in") in_word
+  pub is_range : IsWord (codes "range") range
+  pub mark : IsOpeningParenthesis opening
+
 -- the arguments of `range`: one to three
 abbrev pub SpellsBounds : List Token → List Expr → Type 0
 SpellsBounds ts bounds = SpellsSequence ts bounds × (length bounds ≤ 3)
@@ -99,10 +109,6 @@ IsOnlyItems first tokens read =
 abbrev pub ends_argument : Token → Bool
 ends_argument token = is_symbol (codes ",") token || is_symbol (codes ")") token
 
--- each argument that a comma or a closing parenthesis follows was read
-abbrev pub IsOnlyArgument : List Token → Option (Arg × List Token) → Type 0
-IsOnlyArgument = IsOnlyUpTo SpellsArgument ends_argument
-
 -- the tokens begin with the name of a parameter and `=`, and this comes after them
 abbrev pub IsParameter : List Token → Token → List Token → Type 0
 IsParameter tokens name tail =
@@ -111,3 +117,10 @@ IsParameter tokens name tail =
 -- the tokens don't begin so
 abbrev pub IsNoParameter : List Token → Type 0
 IsNoParameter tokens = (name : Token) (tail : List Token) → IsParameter tokens name tail → ⊥
+
+-- an argument begins with this name, if it has one, and its value comes after it
+pub data OpensArgument : List Token → Option (List ℕ) → List Token → Type 0 where
+  plain : (tokens : List Token) → IsNoParameter tokens → OpensArgument tokens None tokens
+  named : (tokens tail : List Token) (name : Token)
+      → IsParameter tokens name tail
+      → OpensArgument tokens (Some name.text) tail

@@ -1,5 +1,5 @@
 -- The parts of a header, as the parser reads them.
-use Rattle.std.specs.Prelude.{ℕ, Bool, false, List, [], ◌∷◌, codes, Option, Some, None}
+use Rattle.std.specs.Prelude.{◌≡◌, ℕ, Bool, false, List, [], ◌∷◌, codes, Option, Some, None}
 use Rattle.pm_syn.specs.declared.expression.Expr.{Expr}
 use Rattle.pm_syn.specs.declared.statement.Par.{Par}
 use Rattle.pm_syn.specs.declared.statement.Stmt.{Stmt}
@@ -7,10 +7,11 @@ use Rattle.pm_syn.specs.declared.statement.Stmt as leaf
 use Rattle.pm_syn.specs.declared.statement.Stmt.TheViews as stmt
 use Rattle.pm_syn.specs.declared.token.Token.{Token}
 use Rattle.pm_grammar.specs.Expressions.{SpellsRange}
-use Rattle.pm_grammar.specs.Brackets.{ends_argument}
 use Rattle.pm_grammar.specs.Tokens.{IsClosingParenthesis, IsColon, IsName, IsOpeningParenthesis, IsStar, IsWord, is_symbol}
-use Rattle.pm_grammar.specs.Reading.{Begins, IsOnlyUpTo}
-use Rattle.pm_grammar.specs.Statements.{IsExpression, SpellsEnd, SpellsNames, SpellsParameter, SpellsResult, SpellsSignature, SpellsSimple}
+use Rattle.pm_grammar.specs.Prefixes.{IsNotFirst}
+use Rattle.pm_grammar.specs.Reading.{Begins, Ends, IsRead}
+use Rattle.pm_grammar.specs.Statements.{IsExpression, SpellsEnd, SpellsNames, SpellsOptional, SpellsResult, SpellsSignature, SpellsSimple}
+use Rattle.pm_grammar.specs.declared.level.Level.TheVariants as level
 
 -- the symbol is the only token
 abbrev pub is_lone : List ℕ → List Token → Bool
@@ -39,6 +40,10 @@ pub data SpellsImport : List Token → Type 0 where
       → SpellsNames names
       → SpellsImport (library ∷ import_word ∷ names)
   deque : (ts : List Token) → SpellsDequeImport ts → SpellsImport ts
+
+-- the import that comes after `from`
+abbrev pub IsImport : List Token → Stmt → Type 0
+IsImport tokens s = SpellsImport tokens × (s ≡ leaf.Import)
 
 -- the base of a class in parentheses, and a colon
 pub data SpellsBase : List Token → Token → Type 0 where
@@ -135,6 +140,11 @@ pub data SpellsDefinition : List Token → Stmt → Type 0 where
       → SpellsFunctionEnd rest result body
       → SpellsDefinition (name ∷ opening ∷ ts) (stmt.Def name.text has_self parameters result body)
 
--- each parameter that a comma or a closing parenthesis follows was read
-abbrev pub IsOnlyParameter : List Token → Option (Par × List Token) → Type 0
-IsOnlyParameter = IsOnlyUpTo SpellsParameter ends_argument
+-- each optional expression with which the tokens begin, and which doesn't go on after it, was read
+abbrev pub IsOnlyOptional : List ℕ → List Token → Option (Option Expr × List Token) → Type 0
+IsOnlyOptional symbol tokens read =
+    (one : Option Expr) (rest : List Token)
+    → Begins (SpellsOptional symbol) tokens one rest
+    → IsNotFirst (is_symbol symbol) rest
+    → Ends level.Conditional rest
+    → IsRead read one rest

@@ -12,5 +12,4 @@ pub mod Laws
 pub mod Answers
 pub mod ExpressionStatements
 pub mod Headers
-pub mod Outcomes
 pub mod Readings

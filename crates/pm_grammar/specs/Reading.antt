@@ -1,6 +1,5 @@
 -- What is read from a prefix of tokens, and that nothing else could be.
-use Rattle.std.specs.Borrow.{Bor}
-use Rattle.std.specs.Prelude.{◌≡◌, ◌&&◌, ◌||◌, ◌==◌, nat_le, Bool, false, List, [], ◌∷◌, ◌++◌, codes, Option, Some, None, is_some, option_map, IsTrue, ℕ}
+use Rattle.std.specs.Prelude.{◌≡◌, ◌&&◌, ◌||◌, ◌==◌, nat_le, Bool, false, List, [], ◌∷◌, ◌++◌, codes, Option, Some, None, is_some, IsTrue, ℕ}
 use Rattle.pm_syn.specs.declared.expression.Expr.{Expr}
 use Rattle.pm_syn.specs.declared.token.Token.{Token}
 use Rattle.pm_grammar.specs.Expressions.{Spells}
@@ -73,10 +72,6 @@ abbrev pub IsOnlyBefore : {A : Type 0}
     → Option (A × List Token)
     → Type 0
 IsOnlyBefore Spelled symbol = IsOnlyUpTo Spelled (is_symbol symbol)
-
--- what was read, as lists
-abbrev pub read_of : {A : Type 0} → Option (A × Bor (List Token)) → Option (A × List Token)
-read_of {A} read = option_map (λ (p : A × Bor (List Token)). (p.0, p.1.now)) read
 
 -- each prefix that spells something was read
 abbrev pub IsOnlyBeginning : {A : Type 0}

@@ -1,12 +1,12 @@
 -- The suffixes of an expression, one by one, as the parser reads them.
-use Rattle.std.specs.Prelude.{◌++◌, Bool, false, List, [], ◌∷◌, Option}
+use Rattle.std.specs.Prelude.{◌++◌, Bool, false, List, [], ◌∷◌}
 use Rattle.pm_syn.specs.declared.expression.Arg.{Arg}
 use Rattle.pm_syn.specs.declared.expression.Expr.{Expr}
 use Rattle.pm_syn.specs.declared.expression.Expr.TheViews as expr
 use Rattle.pm_syn.specs.declared.token.Token.{Token}
 use Rattle.pm_grammar.specs.Expressions.{Spells, SpellsArguments}
 use Rattle.pm_grammar.specs.Tokens.{IsClosingBracket, IsClosingParenthesis, IsColon, IsDot, IsName, IsOpeningBracket, IsOpeningParenthesis}
-use Rattle.pm_grammar.specs.Reading.{Begins, IsRead, is_suffix}
+use Rattle.pm_grammar.specs.Reading.{is_suffix}
 use Rattle.pm_grammar.specs.declared.level.Level.TheVariants as level
 
 -- the tokens begin a suffix
@@ -37,10 +37,3 @@ pub data SpellsSuffix (e : Expr) : List Token → Expr → Type 0 where
       → Spells level.Conditional vs high
       → IsClosingBracket closing
       → SpellsSuffix e (opening ∷ (us ++ colon ∷ (vs ++ closing ∷ []))) (expr.Slice e low high)
-
--- each suffix that a prefix of the tokens spells was read
-abbrev pub IsOnlySuffix : Expr → List Token → Option (Expr × List Token) → Type 0
-IsOnlySuffix e all read =
-    (longer : Expr) (rest : List Token)
-    → Begins (SpellsSuffix e) all longer rest
-    → IsRead read longer rest

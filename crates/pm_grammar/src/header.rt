@@ -1,20 +1,17 @@
 //! Reading headers: the lines that a body follows, imports and decorators.
-ghost use Rattle.std.specs.Prelude.{◌≡◌, ◌↔◌, IfOk, IfSome, IsTrue, List as TheList, MatchOption, Option, Some, codes};
+ghost use Rattle.std.specs.Prelude.{◌≡◌, ◌↔◌, IfOk, IfSome, IsTrue, List as TheList, MatchOption, Some, codes};
 ghost use Rattle.pm_syn.specs.declared.statement.Stmt.{Stmt as TheStmt};
 ghost use Rattle.pm_syn.specs.declared.token.Token.{Token as TheToken};
-ghost use Rattle.pm_syn.specs.declared.expression.Expr.{Expr as TheExpr};
 ghost use Rattle.pm_grammar.specs.Brackets.{ends_argument};
-ghost use Rattle.pm_grammar.specs.Prefixes.{IsNotFirst};
-ghost use Rattle.pm_grammar.specs.Headers.{IsCondition, IsGuard, IsSignature, OpensGuard, SpellsBase, SpellsBranch, SpellsClass, SpellsDecorator, SpellsDefinition, SpellsDequeImport, SpellsFor, SpellsFunctionEnd, SpellsImport};
+ghost use Rattle.pm_grammar.specs.Headers.{IsCondition, IsGuard, IsImport, IsOnlyOptional, IsSignature, OpensGuard, SpellsBase, SpellsBranch, SpellsClass, SpellsDecorator, SpellsDefinition, SpellsDequeImport, SpellsFor, SpellsFunctionEnd, SpellsImport};
 ghost use Rattle.pm_grammar.specs.Headers as headers;
-ghost use Rattle.pm_grammar.specs.Tokens as lexical;
-ghost use Rattle.pm_grammar.specs.Reading.{Begins, Ends, IsRead, read_of};
 ghost use Rattle.pm_grammar.specs.Statements.{SpellsEnd, SpellsLine, SpellsNames, SpellsOptional, SpellsParameter, SpellsResult};
-ghost use Rattle.pm_grammar.specs.declared.level.Level.TheVariants as levels;
-ghost use Rattle.pm_grammar.specs.Outcomes.{Gives, GivesEach, Reads, ReadsEachBefore, ReadsEachUpTo};
+ghost use Rattle.pm_grammar.specs.Readings.{Gives, GivesEach, Leaves, Reads, ReadsEachBefore, ReadsEachUpTo};
 
-use crate::reading::{Read, expression, range};
-use crate::simple::{Whole, simple};
+use crate::operand::range;
+use crate::operation::expression;
+use crate::reading::{ReadFault, Reading, Whole};
+use crate::simple::simple;
 use crate::tokens::{after_name, after_symbol, after_word, begins_with_symbol, is_symbol, is_word};
 use pm_io::{Boxed, List, NoMemory, Text};
 use pm_syn::{Expr, Par, Stmt, Token};
@@ -25,17 +22,25 @@ pub fn statement(alloc: Global, tokens: &[Token]) -> Result<Option<Stmt>, NoMemo
     ensures found { IfOk result (λ o. IfSome o (λ s. SpellsLine tokens.now s)) }
     ensures only { IfOk result (λ o. (s : TheStmt) → SpellsLine tokens.now s → o ≡ Some s) }
 {
+    match line(alloc, tokens) {
+        Ok(statement) => Ok(Some(statement)),
+        Err(ReadFault::NotSpelled) => Ok(None),
+        Err(ReadFault::NoMemory) => Err(NoMemory),
+    }
+}
+
+/// Reads a logical line.
+fn line(alloc: Global, tokens: &[Token]) -> Whole<Stmt>
+    ensures found { Gives (SpellsLine tokens.now) result }
+    ensures only { GivesEach (SpellsLine tokens.now) result }
+{
     let Some((first, tail)) = tokens.split_first() else {
-        return Ok(None);
+        return Err(ReadFault::NotSpelled);
     };
     if is_symbol(b"@", first) {
         decorator(alloc, tail)
     } else if is_word(b"from", first) {
-        Ok(if is_import(tail) {
-            Some(Stmt::Import)
-        } else {
-            None
-        })
+        import(tail)
     } else if is_word(b"class", first) {
         class(alloc, tail)
     } else if is_word(b"def", first) {
@@ -53,22 +58,16 @@ fn branch(alloc: Global, tokens: &[Token]) -> Whole<Stmt>
     ensures only { GivesEach (SpellsBranch tokens.now) result }
 {
     if let Some(tail) = after_word(tokens, b"if") {
-        let Some((condition, body)) = condition(alloc, tail)? else {
-            return Ok(None);
-        };
-        return Ok(Some(Stmt::If(condition.into_inner(), body)));
+        let (condition, body) = condition(alloc, tail)?;
+        return Ok(Stmt::If(condition.into_inner(), body));
     }
     if let Some(tail) = after_word(tokens, b"elif") {
-        let Some((condition, body)) = condition(alloc, tail)? else {
-            return Ok(None);
-        };
-        return Ok(Some(Stmt::Elif(condition.into_inner(), body)));
+        let (condition, body) = condition(alloc, tail)?;
+        return Ok(Stmt::Elif(condition.into_inner(), body));
     }
     if let Some(tail) = after_word(tokens, b"else") {
-        let Some(body) = header_end(alloc, tail)? else {
-            return Ok(None);
-        };
-        return Ok(Some(Stmt::Else(body)));
+        let body = header_end(alloc, tail)?;
+        return Ok(Stmt::Else(body));
     }
     simple(alloc, tokens)
 }
@@ -76,15 +75,11 @@ fn branch(alloc: Global, tokens: &[Token]) -> Whole<Stmt>
 /// Reads a condition and the end of its header.
 fn condition(alloc: Global, tokens: &[Token]) -> Whole<(Boxed<Expr>, Option<Boxed<Stmt>>)>
     ensures found { Gives (λ p. IsCondition tokens.now p.0 p.1) result }
-    ensures only { IfOk result (λ o. (condition : TheExpr) (body : Option TheStmt) → IsCondition tokens.now condition body → o ≡ Some (condition, body)) }
+    ensures only { GivesEach (λ p. IsCondition tokens.now p.0 p.1) result }
 {
-    let Some((condition, rest)) = expression(alloc, tokens)? else {
-        return Ok(None);
-    };
-    let Some(body) = header_end(alloc, rest)? else {
-        return Ok(None);
-    };
-    Ok(Some((condition, body)))
+    let (condition, rest) = expression(alloc, tokens)?;
+    let body = header_end(alloc, rest)?;
+    Ok((condition, body))
 }
 
 /// Reads the end of a header: a colon, and a simple statement or none.
@@ -93,14 +88,24 @@ fn header_end(alloc: Global, tokens: &[Token]) -> Whole<Option<Boxed<Stmt>>>
     ensures only { GivesEach (SpellsEnd tokens.now) result }
 {
     let Some(tail) = after_symbol(tokens, b":") else {
-        return Ok(None);
+        return Err(ReadFault::NotSpelled);
     };
     if tail.is_empty() {
-        return Ok(Some(None));
+        return Ok(None);
     }
-    match simple(alloc, tail)? {
-        Some(statement) => Ok(Some(Some(Boxed::new(alloc, statement)?))),
-        None => Ok(None),
+    let statement = simple(alloc, tail)?;
+    Ok(Some(Boxed::new(alloc, statement)?))
+}
+
+/// Reads what comes after `from`.
+fn import(tokens: &[Token]) -> Whole<Stmt>
+    ensures found { Gives (IsImport tokens.now) result }
+    ensures only { GivesEach (IsImport tokens.now) result }
+{
+    if is_import(tokens) {
+        Ok(Stmt::Import)
+    } else {
+        Err(ReadFault::NotSpelled)
     }
 }
 
@@ -165,17 +170,17 @@ fn class(alloc: Global, tokens: &[Token]) -> Whole<Stmt>
     ensures only { GivesEach (SpellsClass tokens.now) result }
 {
     let Some((name, rest)) = after_name(tokens) else {
-        return Ok(None);
+        return Err(ReadFault::NotSpelled);
     };
     if is_lone_symbol(rest, b":") {
-        return Ok(Some(Stmt::Class(Text::from_slice(alloc, name.text.as_slice())?, None)));
+        return Ok(Stmt::Class(Text::from_slice(alloc, name.text.as_slice())?, None));
     }
     let Some(base) = base(rest) else {
-        return Ok(None);
+        return Err(ReadFault::NotSpelled);
     };
     let name = Text::from_slice(alloc, name.text.as_slice())?;
     let base = Text::from_slice(alloc, base.text.as_slice())?;
-    Ok(Some(Stmt::Class(name, Some(base))))
+    Ok(Stmt::Class(name, Some(base)))
 }
 
 /// The base of a class in parentheses, and a colon after it.
@@ -198,21 +203,19 @@ fn decorator(alloc: Global, tokens: &[Token]) -> Whole<Stmt>
     ensures only { GivesEach (SpellsDecorator tokens.now) result }
 {
     let Some((name, rest)) = after_name(tokens) else {
-        return Ok(None);
+        return Err(ReadFault::NotSpelled);
     };
     if rest.is_empty() {
-        return Ok(Some(Stmt::Mark(Text::from_slice(alloc, name.text.as_slice())?)));
+        return Ok(Stmt::Mark(Text::from_slice(alloc, name.text.as_slice())?));
     }
     if !is_word(b"non_blocking", name) {
-        return Ok(None);
+        return Err(ReadFault::NotSpelled);
     }
     let Some(tail) = after_guard_opening(rest) else {
-        return Ok(None);
+        return Err(ReadFault::NotSpelled);
     };
-    let Some(condition) = guard(alloc, tail)? else {
-        return Ok(None);
-    };
-    Ok(Some(Stmt::NonBlocking(condition.into_inner())))
+    let condition = guard(alloc, tail)?;
+    Ok(Stmt::NonBlocking(condition.into_inner()))
 }
 
 /// What comes after `( lambda s:`, if the tokens begin with it.
@@ -230,13 +233,11 @@ fn guard(alloc: Global, tokens: &[Token]) -> Whole<Boxed<Expr>>
     ensures found { Gives (IsGuard tokens.now) result }
     ensures only { GivesEach (IsGuard tokens.now) result }
 {
-    let Some((condition, rest)) = expression(alloc, tokens)? else {
-        return Ok(None);
-    };
+    let (condition, rest) = expression(alloc, tokens)?;
     if is_lone_symbol(rest, b")") {
-        Ok(Some(condition))
+        Ok(condition)
     } else {
-        Ok(None)
+        Err(ReadFault::NotSpelled)
     }
 }
 
@@ -245,14 +246,10 @@ fn for_header(alloc: Global, tokens: &[Token]) -> Whole<Stmt>
     ensures found { Gives (SpellsFor tokens.now) result }
     ensures only { GivesEach (SpellsFor tokens.now) result }
 {
-    let Some((range, rest)) = range(alloc, tokens)? else {
-        return Ok(None);
-    };
-    let Some(body) = header_end(alloc, rest)? else {
-        return Ok(None);
-    };
+    let (range, rest) = range(alloc, tokens)?;
+    let body = header_end(alloc, rest)?;
     let (name, bounds) = range;
-    Ok(Some(Stmt::For(name, bounds, body)))
+    Ok(Stmt::For(name, bounds, body))
 }
 
 /// Reads what comes after `def`.
@@ -261,20 +258,16 @@ fn definition(alloc: Global, tokens: &[Token]) -> Whole<Stmt>
     ensures only { GivesEach (SpellsDefinition tokens.now) result }
 {
     let Some((name, rest)) = after_name(tokens) else {
-        return Ok(None);
+        return Err(ReadFault::NotSpelled);
     };
     let Some(rest) = after_symbol(rest, b"(") else {
-        return Ok(None);
+        return Err(ReadFault::NotSpelled);
     };
     let name = Text::from_slice(alloc, name.text.as_slice())?;
-    let Some((signature, rest)) = signature(alloc, rest)? else {
-        return Ok(None);
-    };
-    let Some((note, body)) = function_end(alloc, rest)? else {
-        return Ok(None);
-    };
+    let (signature, rest) = signature(alloc, rest)?;
+    let (note, body) = function_end(alloc, rest)?;
     let (has_self, parameters) = signature;
-    Ok(Some(Stmt::Def(name, has_self, parameters, unboxed(note), body)))
+    Ok(Stmt::Def(name, has_self, parameters, unboxed(note), body))
 }
 
 /// Reads the end of a function's header, from the closing parenthesis.
@@ -283,67 +276,57 @@ fn function_end(
     tokens: &[Token],
 ) -> Whole<(Option<Boxed<Expr>>, Option<Boxed<Stmt>>)>
     ensures found { Gives (λ p. SpellsFunctionEnd tokens.now p.0 p.1) result }
-    ensures only { IfOk result (λ o. (note : Option TheExpr) (body : Option TheStmt) → SpellsFunctionEnd tokens.now note body → o ≡ Some (note, body)) }
+    ensures only { GivesEach (λ p. SpellsFunctionEnd tokens.now p.0 p.1) result }
 {
     let Some(rest) = after_symbol(tokens, b")") else {
-        return Ok(None);
+        return Err(ReadFault::NotSpelled);
     };
-    let Some((note, rest)) = result_note(alloc, rest)? else {
-        return Ok(None);
-    };
-    let Some(body) = header_end(alloc, rest)? else {
-        return Ok(None);
-    };
-    Ok(Some((note, body)))
+    let (note, rest) = result_note(alloc, rest)?;
+    let body = header_end(alloc, rest)?;
+    Ok((note, body))
 }
 
 /// Reads what comes between the parentheses of a function: whether `s` is its first parameter, and the others.
-fn signature(alloc: Global, tokens: &[Token]) -> Read<'_, (bool, List<Par>)>
+fn signature(alloc: Global, tokens: &[Token]) -> Reading<'_, (bool, List<Par>)>
     ensures found { Reads IsSignature tokens.now result }
     ensures only { ReadsEachBefore IsSignature (codes ")") tokens.now result }
 {
     let mut parameters = List::new(alloc);
     let Some(mut rest) = after_word(tokens, b"s") else {
-        return Ok(Some(((false, parameters), tokens)));
+        return Ok(((false, parameters), tokens));
     };
     'parameters: while let Some(tail) = after_symbol(rest, b",") {
         if begins_with_symbol(tail, b")") {
-            return Ok(Some(((true, parameters), tail)));
+            return Ok(((true, parameters), tail));
         }
-        let Some((parameter, after)) = parameter(alloc, tail)? else {
-            return Ok(None);
-        };
+        let (parameter, after) = parameter(alloc, tail)?;
         parameters.push(parameter)?;
         rest = after;
     }
-    Ok(Some(((true, parameters), rest)))
+    Ok(((true, parameters), rest))
 }
 
 /// Reads a parameter, with its annotation and its default.
-fn parameter(alloc: Global, tokens: &[Token]) -> Read<'_, Par>
+fn parameter(alloc: Global, tokens: &[Token]) -> Reading<'_, Par>
     ensures found { Reads SpellsParameter tokens.now result }
     ensures only { ReadsEachUpTo SpellsParameter ends_argument tokens.now result }
 {
     let Some((name, rest)) = after_name(tokens) else {
-        return Ok(None);
+        return Err(ReadFault::NotSpelled);
     };
     let name = Text::from_slice(alloc, name.text.as_slice())?;
-    let Some((note, rest)) = optional(alloc, rest, b":")? else {
-        return Ok(None);
-    };
-    let Some((default, rest)) = optional(alloc, rest, b"=")? else {
-        return Ok(None);
-    };
+    let (note, rest) = optional(alloc, rest, b":")?;
+    let (default, rest) = optional(alloc, rest, b"=")?;
     let note = unboxed(note);
     let default = unboxed(default);
-    Ok(Some((
+    Ok((
         Par {
             name,
             note,
             default,
         },
         rest,
-    )))
+    ))
 }
 
 /// Takes an expression out of its box, if there is one.
@@ -357,32 +340,32 @@ fn unboxed(tree: Option<Boxed<Expr>>) -> Option<Expr>
 }
 
 /// Reads this symbol and an expression, if the tokens begin with the symbol.
-fn optional<'a>(alloc: Global, tokens: &'a [Token], symbol: &[u8]) -> Read<'a, Option<Boxed<Expr>>>
+fn optional<'a>(
+    alloc: Global,
+    tokens: &'a [Token],
+    symbol: &[u8],
+) -> Reading<'a, Option<Boxed<Expr>>>
     ensures found { Reads (SpellsOptional symbol.now) tokens.now result }
-    ensures only { IfOk result (λ o. (one : Option TheExpr) (rest : TheList TheToken) → Begins (SpellsOptional symbol.now) tokens.now one rest → IsNotFirst (lexical.is_symbol symbol.now) rest → Ends levels.Conditional rest → IsRead (read_of o) one rest) }
+    ensures only { Leaves (IsOnlyOptional symbol.now tokens.now) result }
 {
     let Some(tail) = after_symbol(tokens, symbol) else {
-        return Ok(Some((None, tokens)));
+        return Ok((None, tokens));
     };
-    let Some((tree, rest)) = expression(alloc, tail)? else {
-        return Ok(None);
-    };
-    Ok(Some((Some(tree), rest)))
+    let (tree, rest) = expression(alloc, tail)?;
+    Ok((Some(tree), rest))
 }
 
 /// Reads the annotation of a function's result, if it has one.
-fn result_note(alloc: Global, tokens: &[Token]) -> Read<'_, Option<Boxed<Expr>>>
+fn result_note(alloc: Global, tokens: &[Token]) -> Reading<'_, Option<Boxed<Expr>>>
     ensures found { Reads SpellsResult tokens.now result }
     ensures only { ReadsEachBefore SpellsResult (codes ":") tokens.now result }
 {
     let Some(tail) = after_symbol(tokens, b"->") else {
-        return Ok(Some((None, tokens)));
+        return Ok((None, tokens));
     };
     if let Some(rest) = after_word(tail, b"None") {
-        return Ok(Some((None, rest)));
+        return Ok((None, rest));
     }
-    let Some((tree, rest)) = expression(alloc, tail)? else {
-        return Ok(None);
-    };
-    Ok(Some((Some(tree), rest)))
+    let (tree, rest) = expression(alloc, tail)?;
+    Ok((Some(tree), rest))
 }

@@ -1,16 +1,16 @@
 //! Reading expressions: operands, with the signs before them and the suffixes after them.
-ghost use Rattle.std.specs.Prelude.{◌≡◌, IfOk, IsTrue, MatchOption, codes};
+ghost use Rattle.std.specs.Prelude.{◌≡◌, IfOk, IsTrue, List as TheList, MatchOption, codes};
 ghost use Rattle.pm_grammar.specs.Expressions.{Spells, SpellsArgument, SpellsArguments, SpellsRange};
-ghost use Rattle.pm_grammar.specs.Brackets.{IsItemsAfter, IsNoParameter, IsOnlyItems, IsParameter, SpellsAttribute, SpellsBounds, SpellsEach, SpellsGroup, SpellsLeaf, SpellsList, SpellsSubscript, ends_argument};
+ghost use Rattle.pm_grammar.specs.Brackets.{IsItemsAfter, IsNoParameter, IsOnlyItems, IsParameter, OpensArgument, OpensRange, SpellsAttribute, SpellsBounds, SpellsEach, SpellsGroup, SpellsLeaf, SpellsList, SpellsSubscript, ends_argument};
 ghost use Rattle.pm_grammar.specs.Suffixes.{SpellsSuffix};
 ghost use Rattle.pm_grammar.specs.Suffixes as suffixes;
 ghost use Rattle.pm_grammar.specs.declared.level.Level.TheVariants as level;
-ghost use Rattle.pm_grammar.specs.Outcomes.{Gives, GivesEach};
-ghost use Rattle.pm_grammar.specs.Readings.{KeepsOrShortens, Leaves, Reads, ReadsEach, ReadsEachBefore, ReadsEachExpression, ReadsEachUpTo, Shortens};
+ghost use Rattle.pm_syn.specs.declared.token.Token.{Token as TheToken};
+ghost use Rattle.pm_grammar.specs.Readings.{Gives, GivesEach, KeepsOrShortens, Leaves, Reads, ReadsEach, ReadsEachBefore, ReadsEachExpression, ReadsEachUpTo, Shortens};
 
 use crate::operation::expression;
 use crate::operator::sign_of;
-use crate::reading::{ReadFault, Reading};
+use crate::reading::{ReadFault, Reading, Whole, boxed};
 use crate::tokens::{
     after_name, after_symbol, after_word, begins_with_symbol, is_name, is_symbol, is_word,
 };
@@ -32,7 +32,7 @@ pub(crate) fn signed(alloc: Global, tokens: &[Token]) -> Reading<'_, Boxed<Expr>
         return power(alloc, tokens);
     };
     let (operand, rest) = signed(alloc, tail)?;
-    Ok((Boxed::new(alloc, Expr::Unary(sign, operand))?, rest))
+    boxed(alloc, Expr::Unary(sign, operand), rest)
 }
 
 /// Reads an operand with its suffixes, and its exponent.
@@ -47,10 +47,7 @@ fn power(alloc: Global, tokens: &[Token]) -> Reading<'_, Boxed<Expr>>
         return Ok((base, rest));
     };
     let (exponent, rest) = signed(alloc, tail)?;
-    Ok((
-        Boxed::new(alloc, Expr::Binary(BinaryOp::Pow, base, exponent))?,
-        rest,
-    ))
+    boxed(alloc, Expr::Binary(BinaryOp::Pow, base, exponent), rest)
 }
 
 /// Reads an atom with its attributes, calls, indexes and slices.
@@ -95,7 +92,7 @@ fn suffix(alloc: Global, tree: Boxed<Expr>, tokens: &[Token]) -> Reading<'_, Box
         let Some(rest) = after_symbol(rest, b")") else {
             return Err(ReadFault::NotSpelled);
         };
-        return Ok((Boxed::new(alloc, Expr::Call(tree, arguments))?, rest));
+        return boxed(alloc, Expr::Call(tree, arguments), rest);
     }
     match after_symbol(tokens, b"[") {
         Some(tail) => subscript(alloc, tree, tail),
@@ -113,7 +110,7 @@ fn attribute(alloc: Global, tree: Boxed<Expr>, tokens: &[Token]) -> Reading<'_, 
         return Err(ReadFault::NotSpelled);
     };
     let name = Text::from_slice(alloc, name.text.as_slice())?;
-    Ok((Boxed::new(alloc, Expr::Attr(tree, name))?, rest))
+    boxed(alloc, Expr::Attr(tree, name), rest)
 }
 
 /// Reads an index or the bounds of a slice after the opening bracket.
@@ -125,7 +122,7 @@ fn subscript(alloc: Global, tree: Boxed<Expr>, tokens: &[Token]) -> Reading<'_, 
 {
     let (low, rest) = expression(alloc, tokens)?;
     if let Some(rest) = after_symbol(rest, b"]") {
-        return Ok((Boxed::new(alloc, Expr::Index(tree, low))?, rest));
+        return boxed(alloc, Expr::Index(tree, low), rest);
     }
     let Some(tail) = after_symbol(rest, b":") else {
         return Err(ReadFault::NotSpelled);
@@ -134,7 +131,7 @@ fn subscript(alloc: Global, tree: Boxed<Expr>, tokens: &[Token]) -> Reading<'_, 
     let Some(rest) = after_symbol(rest, b"]") else {
         return Err(ReadFault::NotSpelled);
     };
-    Ok((Boxed::new(alloc, Expr::Slice(tree, low, high))?, rest))
+    boxed(alloc, Expr::Slice(tree, low, high), rest)
 }
 
 /// Reads a name, a number, a truth value, or what is in brackets.
@@ -153,29 +150,27 @@ fn atom(alloc: Global, tokens: &[Token]) -> Reading<'_, Boxed<Expr>>
     let Some((first, rest)) = tokens.split_first() else {
         return Err(ReadFault::NotSpelled);
     };
-    match leaf(alloc, first)? {
-        Some(tree) => Ok((Boxed::new(alloc, tree)?, rest)),
-        None => Err(ReadFault::NotSpelled),
-    }
+    let tree = leaf(alloc, first)?;
+    boxed(alloc, tree, rest)
 }
 
 /// The expression that one token spells, if it spells one.
-fn leaf(alloc: Global, token: &Token) -> Result<Option<Expr>, NoMemory>
+fn leaf(alloc: Global, token: &Token) -> Whole<Expr>
     ensures found { Gives (SpellsLeaf token.now) result }
     ensures only { GivesEach (SpellsLeaf token.now) result }
 {
     if is_name(token) {
-        return Ok(Some(Expr::Name(Text::from_slice(alloc, token.text.as_slice())?)));
+        return Ok(Expr::Name(Text::from_slice(alloc, token.text.as_slice())?));
     }
     if is_word(b"True", token) {
-        return Ok(Some(Expr::Bool(true)));
+        return Ok(Expr::Bool(true));
     }
     if is_word(b"False", token) {
-        return Ok(Some(Expr::Bool(false)));
+        return Ok(Expr::Bool(false));
     }
     match token.kind {
-        TokenKind::Int(value) => Ok(Some(Expr::Int(value))),
-        TokenKind::Name | TokenKind::Str | TokenKind::Op => Ok(None),
+        TokenKind::Int(value) => Ok(Expr::Int(value)),
+        TokenKind::Name | TokenKind::Str | TokenKind::Op => Err(ReadFault::NotSpelled),
     }
 }
 
@@ -201,28 +196,28 @@ fn list(alloc: Global, tokens: &[Token]) -> Reading<'_, Boxed<Expr>>
     ensures shorter { Shortens tokens.now result }
 {
     if let Some(rest) = after_symbol(tokens, b"]") {
-        return Ok((Boxed::new(alloc, Expr::Items(List::new(alloc)))?, rest));
+        return boxed(alloc, Expr::Items(List::new(alloc)), rest);
     }
     let (first, rest) = expression(alloc, tokens)?;
     if let Some(tail) = after_word(rest, b"for") {
         return each(alloc, first, tail);
     }
-    let (items, rest) = more_items(alloc, first.into_inner(), rest)?;
+    let (items, rest) = more_items(alloc, first, rest)?;
     let Some(rest) = after_symbol(rest, b"]") else {
         return Err(ReadFault::NotSpelled);
     };
-    Ok((Boxed::new(alloc, Expr::Items(items))?, rest))
+    boxed(alloc, Expr::Items(items), rest)
 }
 
 /// Reads the elements of a list after the first one. A comma may follow the last.
 #[cycle(parse)]
-fn more_items(alloc: Global, first: Expr, tokens: &[Token]) -> Reading<'_, List<Expr>>
+fn more_items(alloc: Global, first: Boxed<Expr>, tokens: &[Token]) -> Reading<'_, List<Expr>>
     ensures found { IfOk result (λ p. IsItemsAfter first tokens.now p.0 p.1.now) }
     ensures only { Leaves (IsOnlyItems first tokens.now) result }
     ensures no_longer { KeepsOrShortens tokens.now result }
 {
     let mut items = List::new(alloc);
-    items.push(first)?;
+    items.push(first.into_inner())?;
     let mut rest = tokens;
     'items: while let Some(tail) = after_symbol(rest, b",") {
         if begins_with_symbol(tail, b"]") {
@@ -247,7 +242,7 @@ fn each(alloc: Global, tree: Boxed<Expr>, tokens: &[Token]) -> Reading<'_, Boxed
         return Err(ReadFault::NotSpelled);
     };
     let (name, bounds) = numbers;
-    Ok((Boxed::new(alloc, Expr::Each(tree, name, bounds))?, rest))
+    boxed(alloc, Expr::Each(tree, name, bounds), rest)
 }
 
 /// Reads `NAME in range( .. )`.
@@ -257,19 +252,10 @@ pub(crate) fn range(alloc: Global, tokens: &[Token]) -> Reading<'_, (Text, List<
     ensures only { ReadsEach SpellsRange tokens.now result }
     ensures shorter { Shortens tokens.now result }
 {
-    let Some((name, rest)) = after_name(tokens) else {
+    let Some((name, tail)) = range_opening(tokens) else {
         return Err(ReadFault::NotSpelled);
     };
-    let Some(rest) = after_word(rest, b"in") else {
-        return Err(ReadFault::NotSpelled);
-    };
-    let Some(rest) = after_word(rest, b"range") else {
-        return Err(ReadFault::NotSpelled);
-    };
-    let Some(rest) = after_symbol(rest, b"(") else {
-        return Err(ReadFault::NotSpelled);
-    };
-    let (bounds, rest) = bounds(alloc, rest)?;
+    let (bounds, rest) = bounds(alloc, tail)?;
     let Some(rest) = after_symbol(rest, b")") else {
         return Err(ReadFault::NotSpelled);
     };
@@ -277,6 +263,17 @@ pub(crate) fn range(alloc: Global, tokens: &[Token]) -> Reading<'_, (Text, List<
         (Text::from_slice(alloc, name.text.as_slice())?, bounds),
         rest,
     ))
+}
+
+/// The name with which `NAME in range(` begins, and what comes after it, if the tokens begin so.
+fn range_opening(tokens: &[Token]) -> Option<(&Token, &[Token])>
+    ensures { MatchOption result ((name : TheToken) (tail : TheList TheToken) → OpensRange tokens.now name tail → ⊥) (λ p. OpensRange tokens.now p.0.now p.1.now) }
+{
+    let (name, rest) = after_name(tokens)?;
+    let rest = after_word(rest, b"in")?;
+    let rest = after_word(rest, b"range")?;
+    let tail = after_symbol(rest, b"(")?;
+    Some((name, tail))
 }
 
 /// Reads the arguments of `range`: one to three.
@@ -327,29 +324,25 @@ fn argument(alloc: Global, tokens: &[Token]) -> Reading<'_, Arg>
     ensures only { ReadsEachUpTo SpellsArgument ends_argument tokens.now result }
     ensures shorter { Shortens tokens.now result }
 {
-    let Some((name, tail)) = parameter_name(tokens) else {
-        let (value, rest) = expression(alloc, tokens)?;
-        return Ok((
-            Arg {
-                name: None,
-                value: value.into_inner(),
-            },
-            rest,
-        ));
-    };
+    let (name, tail) = parameter_name(alloc, tokens)?;
     let (value, rest) = expression(alloc, tail)?;
-    let name = Text::from_slice(alloc, name.text.as_slice())?;
-    Ok((
-        Arg {
-            name: Some(name),
-            value: value.into_inner(),
-        },
-        rest,
-    ))
+    let value = value.into_inner();
+    Ok((Arg { name, value }, rest))
 }
 
-/// The name with which an argument begins, and what comes after its `=`.
-fn parameter_name(tokens: &[Token]) -> Option<(&Token, &[Token])>
+/// The name with which an argument begins, if there is one, and the tokens of its value and after it.
+fn parameter_name(alloc: Global, tokens: &[Token]) -> Result<(Option<Text>, &[Token]), NoMemory>
+    ensures { IfOk result (λ p. OpensArgument tokens.now p.0 p.1.now) }
+{
+    let Some((name, tail)) = parameter(tokens) else {
+        return Ok((None, tokens));
+    };
+    let name = Text::from_slice(alloc, name.text.as_slice())?;
+    Ok((Some(name), tail))
+}
+
+/// The name of a parameter before `=`, and what comes after both.
+fn parameter(tokens: &[Token]) -> Option<(&Token, &[Token])>
     ensures { MatchOption result (IsNoParameter tokens.now) (λ p. IsParameter tokens.now p.0.now p.1.now) }
 {
     let (name, tail) = after_name(tokens)?;

@@ -12,7 +12,7 @@ ghost use Rattle.pm_grammar.specs.Readings.{Leaves, Reads, ReadsEachExpression, 
 use crate::level::Level;
 use crate::operand::signed;
 use crate::operator::operator_after;
-use crate::reading::{ReadFault, Reading};
+use crate::reading::{ReadFault, Reading, boxed};
 use crate::tokens::after_word;
 use pm_io::Boxed;
 use pm_syn::{Expr, Token, UnaryOp};
@@ -34,10 +34,7 @@ pub(crate) fn expression(alloc: Global, tokens: &[Token]) -> Reading<'_, Boxed<E
         return Err(ReadFault::NotSpelled);
     };
     let (other, rest) = expression(alloc, tail)?;
-    Ok((
-        Boxed::new(alloc, Expr::Cond(value, condition, other))?,
-        rest,
-    ))
+    boxed(alloc, Expr::Cond(value, condition, other), rest)
 }
 
 /// Reads an operation of a level from `or` to the signs before an operand.

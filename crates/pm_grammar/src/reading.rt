@@ -1,21 +1,15 @@
-//! What the functions that read expressions return, and how the functions that read statements call them.
-//!
-//! A reader of expressions returns a fault if nothing is spelled, and `?` passes it on. The readers of statements go on from
-//! there with another form, so `expression` and `range` of this module return `None` to them.
+//! What the functions that read tokens return.
 ghost use Rattle.std.specs.Prelude.{◌≡◌};
-ghost use Rattle.pm_grammar.specs.Expressions.{Spells, SpellsRange};
-ghost use Rattle.pm_grammar.specs.Outcomes.{Reads, ReadsEach, ReadsEachExpression};
-ghost use Rattle.pm_grammar.specs.declared.level.Level.TheVariants as level;
+ghost use Rattle.pm_grammar.specs.Readings.{IsBoxed};
 
-use crate::{operand, operation};
-use pm_io::{Boxed, List, NoMemory, Text};
+use pm_io::{Boxed, NoMemory};
 use pm_syn::{Expr, Token};
 use std::alloc::{AllocError, Global};
 
 /// Why nothing was read.
 #[derive(Clone, Copy, Drop)]
 pub(crate) enum ReadFault {
-    /// No prefix of the tokens spells it.
+    /// The tokens don't spell it, or no prefix of them does.
     NotSpelled,
     /// Memory ran out.
     NoMemory,
@@ -44,29 +38,12 @@ impl From<NoMemory> for ReadFault {
 /// What a prefix of the tokens spells and the tokens after it, or why nothing was read.
 pub(crate) type Reading<'a, T> = Result<(T, &'a [Token]), ReadFault>;
 
-/// What a prefix of the tokens spells and the tokens after it, or nothing if no prefix spells it.
-pub(crate) type Read<'a, T> = Result<Option<(T, &'a [Token])>, NoMemory>;
+/// What all of the tokens spell, or why nothing was read.
+pub(crate) type Whole<T> = Result<T, ReadFault>;
 
-/// Reads an expression, if the tokens begin with one.
-pub(crate) fn expression(alloc: Global, tokens: &[Token]) -> Read<'_, Boxed<Expr>>
-    ensures found { Reads (Spells level.Conditional) tokens.now result }
-    ensures only { ReadsEachExpression level.Conditional tokens.now result }
+/// An expression that was read, in a box, and the tokens after it.
+pub(crate) fn boxed(alloc: Global, tree: Expr, rest: &[Token]) -> Reading<'_, Boxed<Expr>>
+    ensures { IsBoxed tree rest.now result }
 {
-    match operation::expression(alloc, tokens) {
-        Ok(read) => Ok(Some(read)),
-        Err(ReadFault::NotSpelled) => Ok(None),
-        Err(ReadFault::NoMemory) => Err(NoMemory),
-    }
-}
-
-/// Reads `NAME in range( .. )`, if the tokens begin so.
-pub(crate) fn range(alloc: Global, tokens: &[Token]) -> Read<'_, (Text, List<Expr>)>
-    ensures found { Reads SpellsRange tokens.now result }
-    ensures only { ReadsEach SpellsRange tokens.now result }
-{
-    match operand::range(alloc, tokens) {
-        Ok(read) => Ok(Some(read)),
-        Err(ReadFault::NotSpelled) => Ok(None),
-        Err(ReadFault::NoMemory) => Err(NoMemory),
-    }
+    Ok((Boxed::new(alloc, tree)?, rest))
 }

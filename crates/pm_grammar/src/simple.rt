@@ -1,36 +1,31 @@
 //! Reading simple statements, which may follow a header on its line.
-ghost use Rattle.std.specs.Prelude.{◌≡◌, ◌↔◌, ◌∷◌, IfOk, IfSome, IsTrue, MatchOption, Some, codes};
-ghost use Rattle.pm_syn.specs.declared.statement.Stmt.{Stmt as TheStmt};
+ghost use Rattle.std.specs.Prelude.{◌≡◌, ◌↔◌, ◌∷◌, IsTrue, MatchOption, Some, codes};
 ghost use Rattle.pm_syn.specs.declared.token.Token.{Token as TheToken};
 ghost use Rattle.pm_grammar.specs.ExpressionStatements.{EndsAssertion, SpellsAfter, SpellsWithExpression};
 ghost use Rattle.pm_grammar.specs.Prefixes.{IsAfter, IsNotFirst};
 ghost use Rattle.pm_grammar.specs.Tokens as lexical;
 ghost use Rattle.pm_grammar.specs.Statements.{AreStrings, IsExpression, SpellsSimple};
 ghost use Rattle.pm_grammar.specs.Statements as spec;
-ghost use Rattle.pm_grammar.specs.Outcomes.{Gives, GivesAfter, GivesEach, GivesEachAfter, Reads};
+ghost use Rattle.pm_grammar.specs.Readings.{Gives, GivesAfter, GivesEach, GivesEachAfter};
 ghost use Rattle.pm_grammar.specs.Tokens.{IsColon, IsSymbol, IsWord};
 
-use crate::reading::expression;
+use crate::operation::expression;
+use crate::reading::{ReadFault, Whole};
 use crate::tokens::{after_symbol, after_word, is_string, is_symbol, is_word};
-use pm_io::{Boxed, NoMemory};
+use pm_io::Boxed;
 use pm_syn::{AssignOp, Expr, Stmt, Token};
 use std::alloc::Global;
-
-/// What all of the tokens spell, if they spell it.
-pub(crate) type Whole<T> = Result<Option<T>, NoMemory>;
 
 /// The expression that the tokens spell.
 pub(crate) fn whole_expression(alloc: Global, tokens: &[Token]) -> Whole<Boxed<Expr>>
     ensures found { Gives (IsExpression tokens.now) result }
     ensures only { GivesEach (IsExpression tokens.now) result }
 {
-    let Some((tree, rest)) = expression(alloc, tokens)? else {
-        return Ok(None);
-    };
+    let (tree, rest) = expression(alloc, tokens)?;
     if rest.is_empty() {
-        Ok(Some(tree))
+        Ok(tree)
     } else {
-        Ok(None)
+        Err(ReadFault::NotSpelled)
     }
 }
 
@@ -40,13 +35,13 @@ pub(crate) fn simple(alloc: Global, tokens: &[Token]) -> Whole<Stmt>
     ensures only { GivesEach (SpellsSimple tokens.now) result }
 {
     let Some((first, tail)) = tokens.split_first() else {
-        return Ok(None);
+        return Err(ReadFault::NotSpelled);
     };
     if is_word(b"pass", first) {
         if tail.is_empty() {
-            return Ok(Some(Stmt::Pass));
+            return Ok(Stmt::Pass);
         }
-        return Ok(None);
+        return Err(ReadFault::NotSpelled);
     }
     if is_word(b"return", first) {
         return returned(alloc, tail);
@@ -55,7 +50,7 @@ pub(crate) fn simple(alloc: Global, tokens: &[Token]) -> Whole<Stmt>
         return assertion(alloc, tail);
     }
     if are_strings(tokens) {
-        return Ok(Some(Stmt::Doc));
+        return Ok(Stmt::Doc);
     }
     expression_statement(alloc, tokens)
 }
@@ -65,10 +60,8 @@ fn returned(alloc: Global, tokens: &[Token]) -> Whole<Stmt>
     ensures found { GivesAfter (IsWord (codes "return")) (λ word. SpellsSimple (word ∷ tokens.now)) result }
     ensures only { GivesEachAfter (IsWord (codes "return")) (λ word. SpellsSimple (word ∷ tokens.now)) result }
 {
-    let Some(value) = whole_expression(alloc, tokens)? else {
-        return Ok(None);
-    };
-    Ok(Some(Stmt::Return(value.into_inner())))
+    let value = whole_expression(alloc, tokens)?;
+    Ok(Stmt::Return(value.into_inner()))
 }
 
 /// Reads what comes after `assert`.
@@ -76,13 +69,11 @@ fn assertion(alloc: Global, tokens: &[Token]) -> Whole<Stmt>
     ensures found { GivesAfter (IsWord (codes "assert")) (λ word. SpellsSimple (word ∷ tokens.now)) result }
     ensures only { GivesEachAfter (IsWord (codes "assert")) (λ word. SpellsSimple (word ∷ tokens.now)) result }
 {
-    let Some((tree, rest)) = expression(alloc, tokens)? else {
-        return Ok(None);
-    };
+    let (tree, rest) = expression(alloc, tokens)?;
     if ends_assertion(rest) {
-        Ok(Some(Stmt::Assert(tree.into_inner())))
+        Ok(Stmt::Assert(tree.into_inner()))
     } else {
-        Ok(None)
+        Err(ReadFault::NotSpelled)
     }
 }
 
@@ -108,18 +99,16 @@ fn expression_statement(alloc: Global, tokens: &[Token]) -> Whole<Stmt>
     ensures found { Gives (SpellsWithExpression tokens.now) result }
     ensures only { GivesEach (SpellsWithExpression tokens.now) result }
 {
-    let Some((target, rest)) = expression(alloc, tokens)? else {
-        return Ok(None);
-    };
+    let (target, rest) = expression(alloc, tokens)?;
     let Some((sign, tail)) = rest.split_first() else {
-        return Ok(Some(Stmt::Do(target.into_inner())));
+        return Ok(Stmt::Do(target.into_inner()));
     };
     if is_symbol(b":", sign) {
         return annotation(alloc, target, tail);
     }
     match assignment_of(sign) {
         Some(op) => assignment(alloc, op, target, tail),
-        None => Ok(None),
+        None => Err(ReadFault::NotSpelled),
     }
 }
 
@@ -148,10 +137,8 @@ fn assignment(alloc: Global, op: AssignOp, target: Boxed<Expr>, tokens: &[Token]
     if let Some(tail) = after_lambda(op, tokens) {
         return joined_block(alloc, target, tail);
     }
-    let Some(value) = whole_expression(alloc, tokens)? else {
-        return Ok(None);
-    };
-    Ok(Some(Stmt::Assign(op, target.into_inner(), value.into_inner())))
+    let value = whole_expression(alloc, tokens)?;
+    Ok(Stmt::Assign(op, target.into_inner(), value.into_inner()))
 }
 
 /// What comes after `lambda`, if the tokens are assigned by `//=` and begin with it.
@@ -167,16 +154,14 @@ fn after_lambda(op: AssignOp, tokens: &[Token]) -> Option<&[Token]>
 
 /// Reads the colon and the value after `//= lambda`.
 fn joined_block(alloc: Global, target: Boxed<Expr>, tokens: &[Token]) -> Whole<Stmt>
-    ensures found { IfOk result (λ o. IfSome o (λ s. (sign word : TheToken) → IsSymbol (codes "//=") sign → IsWord (codes "lambda") word → SpellsAfter target (sign ∷ word ∷ tokens.now) s)) }
-    ensures only { IfOk result (λ o. (s : TheStmt) (sign word : TheToken) → IsSymbol (codes "//=") sign → IsWord (codes "lambda") word → SpellsAfter target (sign ∷ word ∷ tokens.now) s → o ≡ Some s) }
+    ensures found { Gives (λ s. (sign word : TheToken) → IsSymbol (codes "//=") sign → IsWord (codes "lambda") word → SpellsAfter target (sign ∷ word ∷ tokens.now) s) result }
+    ensures only { GivesEach (λ s. (sign : TheToken) × (word : TheToken) × IsSymbol (codes "//=") sign × IsWord (codes "lambda") word × SpellsAfter target (sign ∷ word ∷ tokens.now) s) result }
 {
     let Some(tail) = after_symbol(tokens, b":") else {
-        return Ok(None);
+        return Err(ReadFault::NotSpelled);
     };
-    let Some(value) = whole_expression(alloc, tail)? else {
-        return Ok(None);
-    };
-    Ok(Some(Stmt::JoinLambda(target.into_inner(), value.into_inner())))
+    let value = whole_expression(alloc, tail)?;
+    Ok(Stmt::JoinLambda(target.into_inner(), value.into_inner()))
 }
 
 /// Reads the annotation after a colon, and the value after it, if there is one.
@@ -184,18 +169,14 @@ fn annotation(alloc: Global, target: Boxed<Expr>, tokens: &[Token]) -> Whole<Stm
     ensures found { GivesAfter IsColon (λ colon. SpellsAfter target (colon ∷ tokens.now)) result }
     ensures only { GivesEachAfter IsColon (λ colon. SpellsAfter target (colon ∷ tokens.now)) result }
 {
-    let Some((note, rest)) = expression(alloc, tokens)? else {
-        return Ok(None);
-    };
+    let (note, rest) = expression(alloc, tokens)?;
     if rest.is_empty() {
-        return Ok(Some(Stmt::Note(target.into_inner(), note.into_inner(), None)));
+        return Ok(Stmt::Note(target.into_inner(), note.into_inner(), None));
     }
     let Some(tail) = after_symbol(rest, b"=") else {
-        return Ok(None);
+        return Err(ReadFault::NotSpelled);
     };
-    let Some(value) = whole_expression(alloc, tail)? else {
-        return Ok(None);
-    };
+    let value = whole_expression(alloc, tail)?;
     let value = Some(value.into_inner());
-    Ok(Some(Stmt::Note(target.into_inner(), note.into_inner(), value)))
+    Ok(Stmt::Note(target.into_inner(), note.into_inner(), value))
 }

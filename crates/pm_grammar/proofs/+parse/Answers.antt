@@ -18,17 +18,16 @@ use Rattle.pm_grammar.proofs.+parse.Goals.{operation::operand-then-rank+in_defau
 use Rattle.std.specs.Prelude.{Some, None}
 use Rattle.std.proofs.lemmas.List.{nil_from_length}
 use Rattle.pm_syn.specs.declared.expression.Arg.{Arg}
-use Rattle.pm_syn.specs.declared.expression.BinaryOp.TheVariants as binary
 use Rattle.pm_syn.specs.declared.expression.Expr.TheViews as expr
-use Rattle.pm_grammar.specs.Brackets.{IsItemsAfter, IsOnlyArgument, IsOnlyItems, SpellsAttribute, SpellsBounds, SpellsEach, SpellsGroup, SpellsList, SpellsSubscript}
-use Rattle.pm_grammar.specs.Suffixes.{IsOnlySuffix, SpellsSuffix}
+use Rattle.pm_grammar.specs.Brackets.{IsOnlyItems, SpellsAttribute, SpellsBounds, SpellsEach, SpellsGroup, SpellsLeaf, SpellsList, SpellsSubscript}
+use Rattle.pm_grammar.specs.Suffixes.{SpellsSuffix}
 use Rattle.pm_grammar.proofs.Atoms.{atom_of_group, atom_of_list, begins_group, begins_leaf, begins_list, group_found, no_atom_there, no_group, no_tokens, only_group, only_leaf, open_group}
-use Rattle.pm_grammar.proofs.CallArguments.{GoesOnArguments, SpellsLeading, arguments_found, goes_argument, goes_arguments, last_found, leading_found, named_found, no_argument, no_named, no_plain, nothing_found, only_arguments, only_last, only_named, only_plain, plain_found}
+use Rattle.pm_grammar.proofs.CallArguments.{GoesOnArguments, IsOnlyArgument, SpellsLeading, argument_found, arguments_found, goes_argument, goes_arguments, last_found, leading_found, no_argument, no_value_opened, nothing_found, only_argument, only_arguments, only_last, opened_no_longer}
 use Rattle.pm_grammar.proofs.Lists.{GoesOnItems, IsSequenceBehind, begins_each, begins_more, each_found, empty_found, goes_item, goes_items, items_comma_found, items_found, list_found, no_each, no_item, no_more_items, no_list, only_each, only_empty, only_for, only_items, only_items_comma, only_list, open_each, open_list, sequence_more, sequence_start}
 use Rattle.pm_grammar.proofs.Parts.{behind_shorter}
 use Rattle.pm_grammar.proofs.Powers.{begins_power, begins_signed, begins_unsigned, no_base, no_exponent, no_operand_there, no_signed, only_base, only_power, only_signed, only_unsigned, power_found}
-use Rattle.pm_grammar.proofs.Ranges.{GoesOnBounds, bounds_found, bounds_start, goes_bound, goes_bounds, no_bound, no_bounds, no_range, only_bounds, only_range, open_range, range_found, range_front, too_many}
-use Rattle.pm_grammar.proofs.ReadAnswers.{failed, found_ok, none_read, only_ok}
+use Rattle.pm_grammar.proofs.Ranges.{GoesOnBounds, bounds_found, bounds_start, goes_bound, goes_bounds, no_bound, no_bounds, no_range, only_bounds, only_range, open_range, no_range_there, range_found, too_many}
+use Rattle.pm_grammar.proofs.ReadAnswers.{boxed_found, boxed_only, boxed_shorter, failed, found_ok, none_read, not_given, only_ok}
 use Rattle.pm_grammar.proofs.SuffixChains.{begins_longer, begins_postfix, goes_atom, goes_suffix, no_atom, no_suffix, only_postfix}
 use Rattle.pm_grammar.proofs.SuffixKinds.{begins_attribute, begins_call, begins_place, index_found, no_call, no_place, no_place_behind, no_slice, only_call, only_index, only_slice, only_suffix_attribute, only_suffix_call, only_suffix_place, open_call, open_slice, slice_found}
 
@@ -97,20 +96,24 @@ operation::expression-returns-in_err-other-clause-shorter t c = none_read c.from
 
 pub operation::expression-returns-clause-found : goal.operation::expression-returns-clause-found
 operation::expression-returns-clause-found t c =
-    let value = c.in_ok-value.ensures.found in
-    let condition = c.in_ok-condition.ensures.found in
-    let other = c.in_ok-other.ensures.found in
-    subst (λ (e : Expr). Begins (Spells level.Conditional) c.args.tokens.now e c.in_ok-other.rest.now) (sym c.in_ok-new.ensures)
-    (begins_conditional c.args.tokens.now c.in_ok-value.rest.now c.in-Some.tail.now c.in_ok-condition.rest.now c.in-Some-after_word.tail.now c.in_ok-other.rest.now c.in_ok-value.value c.in_ok-condition.condition c.in_ok-other.other value c.in-Some.ensures condition c.in-Some-after_word.ensures other)
+    boxed_found (Begins (Spells level.Conditional) c.args.tokens.now) _ _ c.boxed.result c.boxed.ensures
+    (begins_conditional c.args.tokens.now c.in_ok-value.rest.now c.in-Some.tail.now c.in_ok-condition.rest.now c.in-Some-after_word.tail.now c.in_ok-other.rest.now c.in_ok-value.value c.in_ok-condition.condition c.in_ok-other.other c.in_ok-value.ensures.found c.in-Some.ensures c.in_ok-condition.ensures.found c.in-Some-after_word.ensures c.in_ok-other.ensures.found)
 
 pub operation::expression-returns-clause-only : goal.operation::expression-returns-clause-only
 operation::expression-returns-clause-only t c =
-    let value = c.in_ok-value.ensures.only in
-    let condition = c.in_ok-condition.ensures.only in
-    let other = c.in_ok-other.ensures.only in
-    subst (λ (e : Expr). IsOnly level.Conditional c.args.tokens.now (Some (e, c.in_ok-other.rest.now))) (sym c.in_ok-new.ensures)
+    boxed_only (IsOnly level.Conditional c.args.tokens.now) _ _ c.boxed.result c.boxed.ensures
     (only_conditional c.args.tokens.now c.in-Some.tail.now c.in-Some-after_word.tail.now c.in_ok-other.rest.now c.in_ok-value.value c.in_ok-condition.condition c.in_ok-other.other
-    (c.in_ok-value.rest.now, value, c.in-Some.ensures) (c.in_ok-condition.rest.now, condition, c.in-Some-after_word.ensures) other)
+    (c.in_ok-value.rest.now, c.in_ok-value.ensures.only, c.in-Some.ensures) (c.in_ok-condition.rest.now, c.in_ok-condition.ensures.only, c.in-Some-after_word.ensures) c.in_ok-other.ensures.only)
+
+pub operation::expression-returns-clause-shorter : goal.operation::expression-returns-clause-shorter
+operation::expression-returns-clause-shorter t c =
+    let value = c.in_ok-value.ensures.shorter in
+    let if_word = behind_shorter (is_word (codes "if")) c.in_ok-value.rest.now c.in-Some.tail.now c.in-Some.ensures in
+    let condition = c.in_ok-condition.ensures.shorter in
+    let else_word = behind_shorter (is_word (codes "else")) c.in_ok-condition.rest.now c.in-Some-after_word.tail.now c.in-Some-after_word.ensures in
+    let other = c.in_ok-other.ensures.shorter in
+    boxed_shorter c.args.tokens.now _ _ c.boxed.result c.boxed.ensures
+    (omega (arith, value, if_word, condition, else_word, other))
 
 pub operation::operand-returns-in_err-operand-clause-only : goal.operation::operand-returns-in_err-operand-clause-only
 operation::operand-returns-in_err-operand-clause-only t c =
@@ -266,17 +269,20 @@ operand::signed-returns-in_err-operand-clause-shorter t c = none_read c.from_res
 
 pub operand::signed-returns-clause-found : goal.operand::signed-returns-clause-found
 operand::signed-returns-clause-found t c =
-    let made : c.in_ok-new.field-0 ≡ expr.Unary c.in-Some-sign_of.sign c.in_ok-operand.operand = c.in_ok-new.ensures in
-    subst (λ (one : Expr). Begins (Spells level.Unary) c.args.tokens.now one c.in_ok-operand.rest.now) (sym made)
-    (begins_signed c.args.tokens.now c.in-Some.tail.now c.in_ok-operand.rest.now c.in-Some.first.now c.in-Some-sign_of.sign c.in_ok-operand.operand c.in-Some.ensures.cases.0 (sym c.in-Some-sign_of.ensures)
-    c.in_ok-operand.ensures.found)
+    boxed_found (Begins (Spells level.Unary) c.args.tokens.now) _ _ c.boxed.result c.boxed.ensures
+    (begins_signed c.args.tokens.now c.in-Some.tail.now c.in_ok-operand.rest.now c.in-Some.first.now c.in-Some-sign_of.sign c.in_ok-operand.operand c.in-Some.ensures.cases.0 (sym c.in-Some-sign_of.ensures) c.in_ok-operand.ensures.found)
 
 pub operand::signed-returns-clause-only : goal.operand::signed-returns-clause-only
 operand::signed-returns-clause-only t c =
-    let made : c.in_ok-new.field-0 ≡ expr.Unary c.in-Some-sign_of.sign c.in_ok-operand.operand = c.in_ok-new.ensures in
-    subst (λ (one : Expr). IsOnly level.Unary c.args.tokens.now (Some (one, c.in_ok-operand.rest.now))) (sym made)
-    (only_signed c.args.tokens.now c.in-Some.tail.now c.in_ok-operand.rest.now c.in-Some.first.now c.in-Some-sign_of.sign c.in_ok-operand.operand c.in-Some.ensures.cases.0 (sym c.in-Some-sign_of.ensures)
-    c.in_ok-operand.ensures.only)
+    boxed_only (IsOnly level.Unary c.args.tokens.now) _ _ c.boxed.result c.boxed.ensures
+    (only_signed c.args.tokens.now c.in-Some.tail.now c.in_ok-operand.rest.now c.in-Some.first.now c.in-Some-sign_of.sign c.in_ok-operand.operand c.in-Some.ensures.cases.0 (sym c.in-Some-sign_of.ensures) c.in_ok-operand.ensures.only)
+
+pub operand::signed-returns-clause-shorter : goal.operand::signed-returns-clause-shorter
+operand::signed-returns-clause-shorter t c =
+    let first = ap length c.in-Some.ensures.cases.0 in
+    let short = c.in_ok-operand.ensures.shorter in
+    boxed_shorter c.args.tokens.now _ _ c.boxed.result c.boxed.ensures
+    (omega (arith, first, short))
 
 pub operand::power-returns-in_err-base-clause-only : goal.operand::power-returns-in_err-base-clause-only
 operand::power-returns-in_err-base-clause-only t c =
@@ -316,19 +322,21 @@ operand::power-returns-in_err-exponent-clause-shorter t c = none_read c.from_res
 
 pub operand::power-returns-clause-found : goal.operand::power-returns-clause-found
 operand::power-returns-clause-found t c =
-    let made : c.in_ok-new.field-0 ≡ expr.Binary binary.Pow c.in_ok-base.base c.in_ok-exponent.exponent = c.in_ok-new.ensures in
-    subst (λ (one : Expr). Begins (Spells level.Power) c.args.tokens.now one c.in_ok-exponent.rest.now) (sym made)
-    (power_found c.args.tokens.now c.in_ok-base.rest.now c.in-Some.tail.now c.in_ok-exponent.rest.now c.in_ok-base.base c.in_ok-exponent.exponent
-    c.in_ok-base.ensures.found c.in-Some.ensures
-    c.in_ok-exponent.ensures.found)
+    boxed_found (Begins (Spells level.Power) c.args.tokens.now) _ _ c.boxed.result c.boxed.ensures
+    (power_found c.args.tokens.now c.in_ok-base.rest.now c.in-Some.tail.now c.in_ok-exponent.rest.now c.in_ok-base.base c.in_ok-exponent.exponent c.in_ok-base.ensures.found c.in-Some.ensures c.in_ok-exponent.ensures.found)
 
 pub operand::power-returns-clause-only : goal.operand::power-returns-clause-only
 operand::power-returns-clause-only t c =
-    let made : c.in_ok-new.field-0 ≡ expr.Binary binary.Pow c.in_ok-base.base c.in_ok-exponent.exponent = c.in_ok-new.ensures in
-    subst (λ (one : Expr). IsOnly level.Power c.args.tokens.now (Some (one, c.in_ok-exponent.rest.now))) (sym made)
-    (only_power c.args.tokens.now c.in_ok-base.rest.now c.in-Some.tail.now c.in_ok-exponent.rest.now c.in_ok-base.base c.in_ok-exponent.exponent
-    c.in_ok-base.ensures.only c.in-Some.ensures
-    c.in_ok-exponent.ensures.only)
+    boxed_only (IsOnly level.Power c.args.tokens.now) _ _ c.boxed.result c.boxed.ensures
+    (only_power c.args.tokens.now c.in_ok-base.rest.now c.in-Some.tail.now c.in_ok-exponent.rest.now c.in_ok-base.base c.in_ok-exponent.exponent c.in_ok-base.ensures.only c.in-Some.ensures c.in_ok-exponent.ensures.only)
+
+pub operand::power-returns-clause-shorter : goal.operand::power-returns-clause-shorter
+operand::power-returns-clause-shorter t c =
+    let base = c.in_ok-base.ensures.shorter in
+    let sign = behind_shorter (is_symbol (codes "**")) c.in_ok-base.rest.now c.in-Some.tail.now c.in-Some.ensures in
+    let exponent = c.in_ok-exponent.ensures.shorter in
+    boxed_shorter c.args.tokens.now _ _ c.boxed.result c.boxed.ensures
+    (omega (arith, base, sign, exponent))
 
 pub operand::suffixed-returns-in_err-tree-clause-only : goal.operand::suffixed-returns-in_err-tree-clause-only
 operand::suffixed-returns-in_err-tree-clause-only t c =
@@ -361,7 +369,7 @@ operand::suffixed-suffixes-preserved t c =
 
 pub operand::suffixed-returns-in_err-longer-clause-only : goal.operand::suffixed-returns-in_err-longer-clause-only
 operand::suffixed-returns-in_err-longer-clause-only t c =
-    failed (IsOnlySuffix c.suffixes.tree c.suffixes.rest.now) (IsOnly level.Postfix c.args.tokens.now) c.from_residual-in_err-longer.result c.in_err-longer.field-0.0
+    failed (IsOnlyBeginning (SpellsSuffix c.suffixes.tree) c.suffixes.rest.now) (IsOnly level.Postfix c.args.tokens.now) c.from_residual-in_err-longer.result c.in_err-longer.field-0.0
     (λ nothing. no_suffix c.args.tokens.now c.suffixes.rest.now c.suffixes.tree (sym c.suffixes-test.ensures) c.suffixes.invariant.only nothing)
     c.from_residual-in_err-longer.ensures c.in_err-longer.ensures.only
 
@@ -382,7 +390,7 @@ operand::suffix-returns-in-Some-clause-found t c =
 
 pub operand::suffix-returns-in-Some-clause-only : goal.operand::suffix-returns-in-Some-clause-only
 operand::suffix-returns-in-Some-clause-only t c =
-    only_ok c.attribute.result (IsOnlyBeginning (SpellsAttribute c.args.tree) c.in-Some.tail.now) (IsOnlySuffix c.args.tree c.args.tokens.now)
+    only_ok c.attribute.result (IsOnlyBeginning (SpellsAttribute c.args.tree) c.in-Some.tail.now) (IsOnlyBeginning (SpellsSuffix c.args.tree) c.args.tokens.now)
     (λ read only. only_suffix_attribute c.args.tokens.now c.in-Some.tail.now c.args.tree read c.in-Some.ensures only) c.attribute.ensures.only
 
 pub operand::suffix-returns-in-Some-after_symbol-3-clause-found : goal.operand::suffix-returns-in-Some-after_symbol-3-clause-found
@@ -392,12 +400,12 @@ operand::suffix-returns-in-Some-after_symbol-3-clause-found t c =
 
 pub operand::suffix-returns-in-Some-after_symbol-3-clause-only : goal.operand::suffix-returns-in-Some-after_symbol-3-clause-only
 operand::suffix-returns-in-Some-after_symbol-3-clause-only t c =
-    only_ok c.subscript.result (IsOnlyBeginning (SpellsSubscript c.args.tree) c.in-Some-after_symbol-3.tail.now) (IsOnlySuffix c.args.tree c.args.tokens.now)
+    only_ok c.subscript.result (IsOnlyBeginning (SpellsSubscript c.args.tree) c.in-Some-after_symbol-3.tail.now) (IsOnlyBeginning (SpellsSuffix c.args.tree) c.args.tokens.now)
     (λ read only. only_suffix_place c.args.tokens.now c.in-Some-after_symbol-3.tail.now c.args.tree read c.in-Some-after_symbol-3.ensures only) c.subscript.ensures.only
 
 pub operand::suffix-returns-in_err-arguments-clause-only : goal.operand::suffix-returns-in_err-arguments-clause-only
 operand::suffix-returns-in_err-arguments-clause-only t c =
-    failed (IsOnlyBefore SpellsArguments (codes ")") c.in-Some-after_symbol.tail.now) (IsOnlySuffix c.args.tree c.args.tokens.now) c.from_residual.result c.in_err-arguments.field-0.0
+    failed (IsOnlyBefore SpellsArguments (codes ")") c.in-Some-after_symbol.tail.now) (IsOnlyBeginning (SpellsSuffix c.args.tree) c.args.tokens.now) c.from_residual.result c.in_err-arguments.field-0.0
     (λ nothing. only_suffix_call c.args.tokens.now c.in-Some-after_symbol.tail.now c.args.tree None c.in-Some-after_symbol.ensures
     (no_call c.in-Some-after_symbol.tail.now c.args.tree nothing))
     c.from_residual.ensures c.in_err-arguments.ensures.only
@@ -415,17 +423,22 @@ operand::suffix-returns-in_default-after_symbol-2-clause-only t c =
 
 pub operand::suffix-returns-in-Some-after_symbol-clause-found : goal.operand::suffix-returns-in-Some-after_symbol-clause-found
 operand::suffix-returns-in-Some-after_symbol-clause-found t c =
-    let made : c.in_ok-new.field-0 ≡ expr.Call c.args.tree c.in_ok-arguments.arguments = c.in_ok-new.ensures in
-    subst (λ (one : Expr). Begins (SpellsSuffix c.args.tree) c.args.tokens.now one c.in-Some-after_symbol-2.rest.now) (sym made)
-    (begins_call c.args.tokens.now c.in-Some-after_symbol.tail.now c.in_ok-arguments.rest.now c.in-Some-after_symbol-2.rest.now c.args.tree c.in_ok-arguments.arguments c.in-Some-after_symbol.ensures
-    c.in_ok-arguments.ensures.found c.in-Some-after_symbol-2.ensures)
+    boxed_found (Begins (SpellsSuffix c.args.tree) c.args.tokens.now) _ _ c.boxed.result c.boxed.ensures
+    (begins_call c.args.tokens.now c.in-Some-after_symbol.tail.now c.in_ok-arguments.rest.now c.in-Some-after_symbol-2.rest.now c.args.tree c.in_ok-arguments.arguments c.in-Some-after_symbol.ensures c.in_ok-arguments.ensures.found c.in-Some-after_symbol-2.ensures)
 
 pub operand::suffix-returns-in-Some-after_symbol-clause-only : goal.operand::suffix-returns-in-Some-after_symbol-clause-only
 operand::suffix-returns-in-Some-after_symbol-clause-only t c =
-    let made : c.in_ok-new.field-0 ≡ expr.Call c.args.tree c.in_ok-arguments.arguments = c.in_ok-new.ensures in
-    subst (λ (one : Expr). IsOnlySuffix c.args.tree c.args.tokens.now (Some (one, c.in-Some-after_symbol-2.rest.now))) (sym made)
+    boxed_only (IsOnlyBeginning (SpellsSuffix c.args.tree) c.args.tokens.now) _ _ c.boxed.result c.boxed.ensures
     (only_suffix_call c.args.tokens.now c.in-Some-after_symbol.tail.now c.args.tree (Some (expr.Call c.args.tree c.in_ok-arguments.arguments, c.in-Some-after_symbol-2.rest.now)) c.in-Some-after_symbol.ensures
     (only_call c.in-Some-after_symbol.tail.now c.in_ok-arguments.rest.now c.in-Some-after_symbol-2.rest.now c.args.tree c.in_ok-arguments.arguments c.in_ok-arguments.ensures.only c.in-Some-after_symbol-2.ensures))
+
+pub operand::suffix-returns-in-Some-after_symbol-clause-shorter : goal.operand::suffix-returns-in-Some-after_symbol-clause-shorter
+operand::suffix-returns-in-Some-after_symbol-clause-shorter t c =
+    let opening = behind_shorter (is_symbol (codes "(")) c.args.tokens.now c.in-Some-after_symbol.tail.now c.in-Some-after_symbol.ensures in
+    let arguments = c.in_ok-arguments.ensures.no_longer in
+    let closing = behind_shorter (is_symbol (codes ")")) c.in_ok-arguments.rest.now c.in-Some-after_symbol-2.rest.now c.in-Some-after_symbol-2.ensures in
+    boxed_shorter c.args.tokens.now _ _ c.boxed.result c.boxed.ensures
+    (omega (arith, opening, arguments, closing))
 
 pub operand::subscript-returns-in_err-low-clause-only : goal.operand::subscript-returns-in_err-low-clause-only
 operand::subscript-returns-in_err-low-clause-only t c =
@@ -441,15 +454,20 @@ operand::subscript-returns-in_err-low-clause-shorter t c = none_read c.from_resi
 
 pub operand::subscript-returns-in-Some-clause-found : goal.operand::subscript-returns-in-Some-clause-found
 operand::subscript-returns-in-Some-clause-found t c =
-    let made : c.in_ok-new.field-0 ≡ expr.Index c.args.tree c.in_ok-low.low = c.in_ok-new.ensures in
-    subst (λ (one : Expr). Begins (SpellsSubscript c.args.tree) c.args.tokens.now one c.in-Some.rest.now) (sym made)
+    boxed_found (Begins (SpellsSubscript c.args.tree) c.args.tokens.now) _ _ c.boxed.result c.boxed.ensures
     (index_found c.args.tokens.now c.in_ok-low.rest.now c.in-Some.rest.now c.args.tree c.in_ok-low.low c.in_ok-low.ensures.found c.in-Some.ensures)
 
 pub operand::subscript-returns-in-Some-clause-only : goal.operand::subscript-returns-in-Some-clause-only
 operand::subscript-returns-in-Some-clause-only t c =
-    let made : c.in_ok-new.field-0 ≡ expr.Index c.args.tree c.in_ok-low.low = c.in_ok-new.ensures in
-    subst (λ (one : Expr). IsOnlyBeginning (SpellsSubscript c.args.tree) c.args.tokens.now (Some (one, c.in-Some.rest.now))) (sym made)
+    boxed_only (IsOnlyBeginning (SpellsSubscript c.args.tree) c.args.tokens.now) _ _ c.boxed.result c.boxed.ensures
     (only_index c.args.tokens.now c.in_ok-low.rest.now c.in-Some.rest.now c.args.tree c.in_ok-low.low c.in_ok-low.ensures.only c.in-Some.ensures)
+
+pub operand::subscript-returns-in-Some-clause-shorter : goal.operand::subscript-returns-in-Some-clause-shorter
+operand::subscript-returns-in-Some-clause-shorter t c =
+    let low = c.in_ok-low.ensures.shorter in
+    let closing = behind_shorter (is_symbol (codes "]")) c.in_ok-low.rest.now c.in-Some.rest.now c.in-Some.ensures in
+    boxed_shorter c.args.tokens.now _ _ c.boxed.result c.boxed.ensures
+    (omega (arith, low, closing))
 
 pub operand::subscript-returns-in_default-after_symbol-clause-only : goal.operand::subscript-returns-in_default-after_symbol-clause-only
 operand::subscript-returns-in_default-after_symbol-clause-only t c =
@@ -475,17 +493,24 @@ operand::subscript-returns-in_default-after_symbol-2-clause-only t c =
 
 pub operand::subscript-returns-clause-found : goal.operand::subscript-returns-clause-found
 operand::subscript-returns-clause-found t c =
-    let made : c.in_ok-new-2.field-0 ≡ expr.Slice c.args.tree c.in_ok-low.low c.in_ok-high.high = c.in_ok-new-2.ensures in
-    subst (λ (one : Expr). Begins (SpellsSubscript c.args.tree) c.args.tokens.now one c.in-Some-after_symbol-2.rest.now) (sym made)
+    boxed_found (Begins (SpellsSubscript c.args.tree) c.args.tokens.now) _ _ c.boxed-2.result c.boxed-2.ensures
     (slice_found c.args.tokens.now c.in_ok-low.rest.now c.in-Some-after_symbol.tail.now c.in_ok-high.rest.now c.in-Some-after_symbol-2.rest.now c.args.tree c.in_ok-low.low c.in_ok-high.high c.in_ok-low.ensures.found c.in-Some-after_symbol.ensures
     c.in_ok-high.ensures.found c.in-Some-after_symbol-2.ensures)
 
 pub operand::subscript-returns-clause-only : goal.operand::subscript-returns-clause-only
 operand::subscript-returns-clause-only t c =
-    let made : c.in_ok-new-2.field-0 ≡ expr.Slice c.args.tree c.in_ok-low.low c.in_ok-high.high = c.in_ok-new-2.ensures in
-    subst (λ (one : Expr). IsOnlyBeginning (SpellsSubscript c.args.tree) c.args.tokens.now (Some (one, c.in-Some-after_symbol-2.rest.now))) (sym made)
+    boxed_only (IsOnlyBeginning (SpellsSubscript c.args.tree) c.args.tokens.now) _ _ c.boxed-2.result c.boxed-2.ensures
     (only_slice c.args.tokens.now c.in_ok-low.rest.now c.in-Some-after_symbol.tail.now c.in_ok-high.rest.now c.in-Some-after_symbol-2.rest.now c.args.tree c.in_ok-low.low c.in_ok-high.high c.in_ok-low.ensures.only c.in_default.ensures c.in-Some-after_symbol.ensures
     c.in_ok-high.ensures.only c.in-Some-after_symbol-2.ensures)
+
+pub operand::subscript-returns-clause-shorter : goal.operand::subscript-returns-clause-shorter
+operand::subscript-returns-clause-shorter t c =
+    let low = c.in_ok-low.ensures.shorter in
+    let colon = behind_shorter (is_symbol (codes ":")) c.in_ok-low.rest.now c.in-Some-after_symbol.tail.now c.in-Some-after_symbol.ensures in
+    let high = c.in_ok-high.ensures.shorter in
+    let closing = behind_shorter (is_symbol (codes "]")) c.in_ok-high.rest.now c.in-Some-after_symbol-2.rest.now c.in-Some-after_symbol-2.ensures in
+    boxed_shorter c.args.tokens.now _ _ c.boxed-2.result c.boxed-2.ensures
+    (omega (arith, low, colon, high, closing))
 
 pub operand::atom-returns-in-Some-clause-found : goal.operand::atom-returns-in-Some-clause-found
 operand::atom-returns-in-Some-clause-found t c =
@@ -511,23 +536,33 @@ pub operand::atom-returns-in_default-split_first-clause-only : goal.operand::ato
 operand::atom-returns-in_default-split_first-clause-only t c =
     no_tokens c.args.tokens.now (nil_from_length c.args.tokens.now c.in_default-split_first.ensures.cases)
 
-pub operand::atom-returns-in-None-clause-only : goal.operand::atom-returns-in-None-clause-only
-operand::atom-returns-in-None-clause-only t c =
-    no_atom_there c.args.tokens.now c.in-Some-split_first.rest.now c.in-Some-split_first.first.now c.in-Some-split_first.ensures.cases.0 c.in_default.ensures c.in_default-after_symbol.ensures
-    (λ e leaf. sym c.in-None.is ∙ c.in_ok-tree.ensures.only e leaf)
+pub operand::atom-returns-in_err-tree-clause-found : goal.operand::atom-returns-in_err-tree-clause-found
+operand::atom-returns-in_err-tree-clause-found t c = none_read c.from_residual.result _ c.from_residual.ensures.0
 
-pub operand::atom-returns-in_ok-new-in-Some-2-clause-found : goal.operand::atom-returns-in_ok-new-in-Some-2-clause-found
-operand::atom-returns-in_ok-new-in-Some-2-clause-found t c =
-    let made : c.in_ok-new-in-Some-2.field-0 ≡ c.in-Some-2.tree = c.in_ok-new-in-Some-2.ensures in
-    subst (λ (one : Expr). Begins (Spells level.Atom) c.args.tokens.now one c.in-Some-split_first.rest.now) (sym made)
-    (begins_leaf c.args.tokens.now c.in-Some-split_first.rest.now c.in-Some-split_first.first.now c.in-Some-2.tree c.in-Some-split_first.ensures.cases.0 (rw c.in-Some-2.is at c.in_ok-tree.ensures.found))
+pub operand::atom-returns-in_err-tree-clause-only : goal.operand::atom-returns-in_err-tree-clause-only
+operand::atom-returns-in_err-tree-clause-only t c =
+    not_given ((e : Expr) → SpellsLeaf c.in-Some-split_first.first.now e → ⊥) (IsOnly level.Atom c.args.tokens.now) c.from_residual.result c.in_err-tree.field-0.0
+    (λ never. no_atom_there c.args.tokens.now c.in-Some-split_first.rest.now c.in-Some-split_first.first.now c.in-Some-split_first.ensures.cases.0 c.in_default.ensures c.in_default-after_symbol.ensures never)
+    c.from_residual.ensures c.in_err-tree.ensures.only
 
-pub operand::atom-returns-in_ok-new-in-Some-2-clause-only : goal.operand::atom-returns-in_ok-new-in-Some-2-clause-only
-operand::atom-returns-in_ok-new-in-Some-2-clause-only t c =
-    let made : c.in_ok-new-in-Some-2.field-0 ≡ c.in-Some-2.tree = c.in_ok-new-in-Some-2.ensures in
-    subst (λ (one : Expr). IsOnly level.Atom c.args.tokens.now (Some (one, c.in-Some-split_first.rest.now))) (sym made)
-    (only_leaf c.args.tokens.now c.in-Some-split_first.rest.now c.in-Some-split_first.first.now c.in-Some-2.tree c.in-Some-split_first.ensures.cases.0 c.in_default.ensures c.in_default-after_symbol.ensures
-    (λ e leaf. sym c.in-Some-2.is ∙ c.in_ok-tree.ensures.only e leaf))
+pub operand::atom-returns-in_err-tree-clause-shorter : goal.operand::atom-returns-in_err-tree-clause-shorter
+operand::atom-returns-in_err-tree-clause-shorter t c = none_read c.from_residual.result _ c.from_residual.ensures.0
+
+pub operand::atom-returns-clause-found : goal.operand::atom-returns-clause-found
+operand::atom-returns-clause-found t c =
+    boxed_found (Begins (Spells level.Atom) c.args.tokens.now) _ _ c.boxed.result c.boxed.ensures
+    (begins_leaf c.args.tokens.now c.in-Some-split_first.rest.now c.in-Some-split_first.first.now c.in_ok-tree.tree c.in-Some-split_first.ensures.cases.0 c.in_ok-tree.ensures.found)
+
+pub operand::atom-returns-clause-only : goal.operand::atom-returns-clause-only
+operand::atom-returns-clause-only t c =
+    boxed_only (IsOnly level.Atom c.args.tokens.now) _ _ c.boxed.result c.boxed.ensures
+    (only_leaf c.args.tokens.now c.in-Some-split_first.rest.now c.in-Some-split_first.first.now c.in_ok-tree.tree c.in-Some-split_first.ensures.cases.0 c.in_default.ensures c.in_default-after_symbol.ensures c.in_ok-tree.ensures.only)
+
+pub operand::atom-returns-clause-shorter : goal.operand::atom-returns-clause-shorter
+operand::atom-returns-clause-shorter t c =
+    let first = ap length c.in-Some-split_first.ensures.cases.0 in
+    boxed_shorter c.args.tokens.now _ _ c.boxed.result c.boxed.ensures
+    (omega (arith, first))
 
 pub operand::group-returns-in_err-tree-clause-only : goal.operand::group-returns-in_err-tree-clause-only
 operand::group-returns-in_err-tree-clause-only t c =
@@ -555,29 +590,33 @@ operand::group-returns-clause-only t c =
 
 pub operand::list-returns-in-Some-clause-found : goal.operand::list-returns-in-Some-clause-found
 operand::list-returns-in-Some-clause-found t c =
-    let made : c.in_ok-new.field-0 ≡ expr.Items c.new.result = c.in_ok-new.ensures in
     let empty : c.new.result ≡ [] = c.new.ensures in
-    let all : c.in_ok-new.field-0 ≡ expr.Items [] = made ∙ ap (λ (es : List Expr). expr.Items es) empty in
-    subst (λ (one : Expr). Begins SpellsList c.args.tokens.now one c.in-Some.rest.now) (sym all) (empty_found c.args.tokens.now c.in-Some.rest.now c.in-Some.ensures)
+    boxed_found (Begins SpellsList c.args.tokens.now) _ _ c.boxed.result c.boxed.ensures
+    (subst (λ (es : List Expr). Begins SpellsList c.args.tokens.now (expr.Items es) c.in-Some.rest.now) (sym empty) (empty_found c.args.tokens.now c.in-Some.rest.now c.in-Some.ensures))
 
 pub operand::list-returns-in-Some-clause-only : goal.operand::list-returns-in-Some-clause-only
 operand::list-returns-in-Some-clause-only t c =
-    let made : c.in_ok-new.field-0 ≡ expr.Items c.new.result = c.in_ok-new.ensures in
     let empty : c.new.result ≡ [] = c.new.ensures in
-    let all : c.in_ok-new.field-0 ≡ expr.Items [] = made ∙ ap (λ (es : List Expr). expr.Items es) empty in
-    subst (λ (one : Expr). IsOnlyBeginning SpellsList c.args.tokens.now (Some (one, c.in-Some.rest.now))) (sym all) (only_empty c.args.tokens.now c.in-Some.rest.now c.in-Some.ensures)
+    boxed_only (IsOnlyBeginning SpellsList c.args.tokens.now) _ _ c.boxed.result c.boxed.ensures
+    (subst (λ (es : List Expr). IsOnlyBeginning SpellsList c.args.tokens.now (Some (expr.Items es, c.in-Some.rest.now))) (sym empty) (only_empty c.args.tokens.now c.in-Some.rest.now c.in-Some.ensures))
+
+pub operand::list-returns-in-Some-clause-shorter : goal.operand::list-returns-in-Some-clause-shorter
+operand::list-returns-in-Some-clause-shorter t c =
+    let closing = behind_shorter (is_symbol (codes "]")) c.args.tokens.now c.in-Some.rest.now c.in-Some.ensures in
+    boxed_shorter c.args.tokens.now _ _ c.boxed.result c.boxed.ensures
+    (omega (arith, closing))
 
 pub operand::list-returns-in_err-first-clause-only : goal.operand::list-returns-in_err-first-clause-only
 operand::list-returns-in_err-first-clause-only t c =
-    failed (IsOnly level.Conditional c.args.tokens.now) (IsOnlyBeginning SpellsList c.args.tokens.now) c.from_residual-in_err-first.result c.in_err-first.field-0.0
+    failed (IsOnly level.Conditional c.args.tokens.now) (IsOnlyBeginning SpellsList c.args.tokens.now) c.from_residual.result c.in_err-first.field-0.0
     (λ nothing. no_list c.args.tokens.now c.in_default.ensures nothing)
-    c.from_residual-in_err-first.ensures c.in_err-first.ensures.only
+    c.from_residual.ensures c.in_err-first.ensures.only
 
 pub operand::list-returns-in_err-first-clause-found : goal.operand::list-returns-in_err-first-clause-found
-operand::list-returns-in_err-first-clause-found t c = none_read c.from_residual-in_err-first.result _ c.from_residual-in_err-first.ensures.0
+operand::list-returns-in_err-first-clause-found t c = none_read c.from_residual.result _ c.from_residual.ensures.0
 
 pub operand::list-returns-in_err-first-clause-shorter : goal.operand::list-returns-in_err-first-clause-shorter
-operand::list-returns-in_err-first-clause-shorter t c = none_read c.from_residual-in_err-first.result _ c.from_residual-in_err-first.ensures.0
+operand::list-returns-in_err-first-clause-shorter t c = none_read c.from_residual.result _ c.from_residual.ensures.0
 
 pub operand::list-returns-in-Some-after_word-clause-found : goal.operand::list-returns-in-Some-after_word-clause-found
 operand::list-returns-in-Some-after_word-clause-found t c =
@@ -591,10 +630,8 @@ operand::list-returns-in-Some-after_word-clause-only t c =
 
 pub operand::list-returns-in_err-items-clause-only : goal.operand::list-returns-in_err-items-clause-only
 operand::list-returns-in_err-items-clause-only t c =
-    let inner : c.into_inner.result ≡ c.in_ok-first.first = c.into_inner.ensures in
-    failed (IsOnlyItems c.into_inner.result c.in_ok-first.rest.now) (IsOnlyBeginning SpellsList c.args.tokens.now) c.from_residual-in_err-items.result c.in_err-items.field-0.0
-    (λ nothing. no_more_items c.args.tokens.now c.in_ok-first.rest.now c.in_ok-first.first c.in_default.ensures c.in_ok-first.ensures.only c.in_default-after_word.ensures
-    (subst (λ (one : Expr). IsOnlyItems one c.in_ok-first.rest.now None) inner nothing))
+    failed (IsOnlyItems c.in_ok-first.first c.in_ok-first.rest.now) (IsOnlyBeginning SpellsList c.args.tokens.now) c.from_residual-in_err-items.result c.in_err-items.field-0.0
+    (λ nothing. no_more_items c.args.tokens.now c.in_ok-first.rest.now c.in_ok-first.first c.in_default.ensures c.in_ok-first.ensures.only c.in_default-after_word.ensures nothing)
     c.from_residual-in_err-items.ensures c.in_err-items.ensures.only
 
 pub operand::list-returns-in_err-items-clause-found : goal.operand::list-returns-in_err-items-clause-found
@@ -605,32 +642,34 @@ operand::list-returns-in_err-items-clause-shorter t c = none_read c.from_residua
 
 pub operand::list-returns-in_default-after_symbol-clause-only : goal.operand::list-returns-in_default-after_symbol-clause-only
 operand::list-returns-in_default-after_symbol-clause-only t c =
-    let inner : c.into_inner.result ≡ c.in_ok-first.first = c.into_inner.ensures in
     open_list c.args.tokens.now c.in_ok-first.rest.now c.in_ok-items.rest.now c.in_ok-first.first c.in_ok-items.items c.in_default.ensures c.in_ok-first.ensures.only c.in_default-after_word.ensures
-    (subst (λ (one : Expr). IsOnlyItems one c.in_ok-first.rest.now (Some (c.in_ok-items.items, c.in_ok-items.rest.now))) inner c.in_ok-items.ensures.only) c.in_default-after_symbol.ensures
+    c.in_ok-items.ensures.only c.in_default-after_symbol.ensures
 
 pub operand::list-returns-clause-found : goal.operand::list-returns-clause-found
 operand::list-returns-clause-found t c =
-    let inner : c.into_inner.result ≡ c.in_ok-first.first = c.into_inner.ensures in
-    let made : c.in_ok-new-2.field-0 ≡ expr.Items c.in_ok-items.items = c.in_ok-new-2.ensures in
-    let more = c.in_ok-items.ensures.found in
-    subst (λ (one : Expr). Begins SpellsList c.args.tokens.now one c.in-Some-after_symbol.rest.now) (sym made)
-    (list_found c.args.tokens.now c.in_ok-first.rest.now c.in_ok-items.rest.now c.in-Some-after_symbol.rest.now c.in_ok-first.first c.in_ok-items.items c.in_ok-first.ensures.found
-    (subst (λ (one : Expr). IsItemsAfter one c.in_ok-first.rest.now c.in_ok-items.items c.in_ok-items.rest.now) inner more) c.in-Some-after_symbol.ensures)
+    boxed_found (Begins SpellsList c.args.tokens.now) _ _ c.boxed-2.result c.boxed-2.ensures
+    (list_found c.args.tokens.now c.in_ok-first.rest.now c.in_ok-items.rest.now c.in-Some-after_symbol.rest.now c.in_ok-first.first c.in_ok-items.items c.in_ok-first.ensures.found c.in_ok-items.ensures.found c.in-Some-after_symbol.ensures)
 
 pub operand::list-returns-clause-only : goal.operand::list-returns-clause-only
 operand::list-returns-clause-only t c =
-    let inner : c.into_inner.result ≡ c.in_ok-first.first = c.into_inner.ensures in
-    let made : c.in_ok-new-2.field-0 ≡ expr.Items c.in_ok-items.items = c.in_ok-new-2.ensures in
-    subst (λ (one : Expr). IsOnlyBeginning SpellsList c.args.tokens.now (Some (one, c.in-Some-after_symbol.rest.now))) (sym made)
+    boxed_only (IsOnlyBeginning SpellsList c.args.tokens.now) _ _ c.boxed-2.result c.boxed-2.ensures
     (only_list c.args.tokens.now c.in_ok-first.rest.now c.in_ok-items.rest.now c.in-Some-after_symbol.rest.now c.in_ok-first.first c.in_ok-items.items c.in_default.ensures c.in_ok-first.ensures.only c.in_default-after_word.ensures
-    (subst (λ (one : Expr). IsOnlyItems one c.in_ok-first.rest.now (Some (c.in_ok-items.items, c.in_ok-items.rest.now))) inner c.in_ok-items.ensures.only) c.in-Some-after_symbol.ensures)
+    c.in_ok-items.ensures.only c.in-Some-after_symbol.ensures)
+
+pub operand::list-returns-clause-shorter : goal.operand::list-returns-clause-shorter
+operand::list-returns-clause-shorter t c =
+    let first = c.in_ok-first.ensures.shorter in
+    let items = c.in_ok-items.ensures.no_longer in
+    let closing = behind_shorter (is_symbol (codes "]")) c.in_ok-items.rest.now c.in-Some-after_symbol.rest.now c.in-Some-after_symbol.ensures in
+    boxed_shorter c.args.tokens.now _ _ c.boxed-2.result c.boxed-2.ensures
+    (omega (arith, first, items, closing))
 
 pub operand::more_items-items-init : goal.operand::more_items-items-init
 operand::more_items-items-init t c =
+    let inner : c.into_inner.result ≡ c.args.first = c.into_inner.ensures in
     let empty : c.new-items.result ≡ [] = c.new-items.ensures in
-    let pushed : c.push.new.self ≡ c.new-items.result ++ c.args.first ∷ [] = c.in_ok-push.ensures.ok in
-    let one : c.push.new.self ≡ c.args.first ∷ [] = pushed ∙ ap (λ (es : List Expr). es ++ c.args.first ∷ []) empty in
+    let pushed : c.push.new.self ≡ c.new-items.result ++ c.into_inner.result ∷ [] = c.in_ok-push.ensures.ok in
+    let one : c.push.new.self ≡ c.args.first ∷ [] = pushed ∙ ap (λ (es : List Expr). es ++ c.into_inner.result ∷ []) empty ∙ ap (λ (e : Expr). e ∷ []) inner in
     record {
       found = subst (λ (es : List Expr). IsSequenceBehind c.args.first c.args.tokens.now es c.args.tokens.now) (sym one) (sequence_start c.args.tokens.now c.args.first);
       only = subst (λ (es : List Expr). GoesOnItems c.args.first c.args.tokens.now es c.args.tokens.now) (sym one) (goes_items c.args.tokens.now c.args.first);
@@ -639,8 +678,8 @@ operand::more_items-items-init t c =
 
 pub operand::more_items-items-preserved : goal.operand::more_items-items-preserved
 operand::more_items-items-preserved t c =
-    let inner : c.into_inner.result ≡ c.in_ok-item.item = c.into_inner.ensures in
-    let pushed : c.push-in-Some.new.self ≡ c.items.items ++ c.into_inner.result ∷ [] = c.in_ok-push-2.ensures.ok in
+    let inner : c.into_inner-in-Some.result ≡ c.in_ok-item.item = c.into_inner-in-Some.ensures in
+    let pushed : c.push-in-Some.new.self ≡ c.items.items ++ c.into_inner-in-Some.result ∷ [] = c.in_ok-push-2.ensures.ok in
     let all : c.push-in-Some.new.self ≡ c.items.items ++ c.in_ok-item.item ∷ [] = pushed ∙ ap (λ (one : Expr). c.items.items ++ one ∷ []) inner in
     let short = c.in_ok-item.ensures.shorter in
     let comma = behind_shorter (is_symbol (codes ",")) c.items.rest.now c.in-Some.tail.now c.in-Some.ensures in
@@ -707,22 +746,28 @@ operand::each-returns-in_default-clause-only t c =
 
 pub operand::each-returns-clause-found : goal.operand::each-returns-clause-found
 operand::each-returns-clause-found t c =
-    let made : c.in_ok-new.field-0 ≡ expr.Each c.args.tree c.in_ok-numbers.numbers.0 c.in_ok-numbers.numbers.1 = c.in_ok-new.ensures in
-    let range = c.in_ok-numbers.ensures.found in
-    subst (λ (one : Expr). Begins (SpellsEach c.args.tree) c.args.tokens.now one c.in-Some.rest.now) (sym made)
-    (each_found c.args.tokens.now c.in_ok-numbers.rest.now c.in-Some.rest.now c.args.tree c.in_ok-numbers.numbers range c.in-Some.ensures)
+    boxed_found (Begins (SpellsEach c.args.tree) c.args.tokens.now) _ _ c.boxed.result c.boxed.ensures
+    (each_found c.args.tokens.now c.in_ok-numbers.rest.now c.in-Some.rest.now c.args.tree c.in_ok-numbers.numbers c.in_ok-numbers.ensures.found c.in-Some.ensures)
 
 pub operand::each-returns-clause-only : goal.operand::each-returns-clause-only
 operand::each-returns-clause-only t c =
-    let made : c.in_ok-new.field-0 ≡ expr.Each c.args.tree c.in_ok-numbers.numbers.0 c.in_ok-numbers.numbers.1 = c.in_ok-new.ensures in
-    subst (λ (one : Expr). IsOnlyBeginning (SpellsEach c.args.tree) c.args.tokens.now (Some (one, c.in-Some.rest.now))) (sym made)
+    boxed_only (IsOnlyBeginning (SpellsEach c.args.tree) c.args.tokens.now) _ _ c.boxed.result c.boxed.ensures
     (only_each c.args.tokens.now c.in_ok-numbers.rest.now c.in-Some.rest.now c.args.tree c.in_ok-numbers.numbers c.in_ok-numbers.ensures.only c.in-Some.ensures)
+
+pub operand::each-returns-clause-shorter : goal.operand::each-returns-clause-shorter
+operand::each-returns-clause-shorter t c =
+    let numbers = c.in_ok-numbers.ensures.shorter in
+    let closing = behind_shorter (is_symbol (codes "]")) c.in_ok-numbers.rest.now c.in-Some.rest.now c.in-Some.ensures in
+    boxed_shorter c.args.tokens.now _ _ c.boxed.result c.boxed.ensures
+    (omega (arith, numbers, closing))
+
+pub operand::range-returns-in_default-clause-only : goal.operand::range-returns-in_default-clause-only
+operand::range-returns-in_default-clause-only t c = no_range_there c.args.tokens.now c.in_default.ensures
 
 pub operand::range-returns-in_err-bounds-clause-only : goal.operand::range-returns-in_err-bounds-clause-only
 operand::range-returns-in_err-bounds-clause-only t c =
-    let front = range_front c.args.tokens.now c.in-Some.rest.now c.in-Some-after_word.rest.now c.in-Some-after_word-2.rest.now c.in-Some-after_symbol.rest.now c.in-Some.name.now c.in-Some.ensures.0 c.in-Some.ensures.1 c.in-Some-after_word.ensures c.in-Some-after_word-2.ensures c.in-Some-after_symbol.ensures in
-    failed (IsOnlyBefore SpellsBounds (codes ")") c.in-Some-after_symbol.rest.now) (IsOnlyBeginning SpellsRange c.args.tokens.now) c.from_residual.result c.in_err-bounds.field-0.0
-    (λ nothing. no_range c.args.tokens.now c.in-Some-after_symbol.rest.now c.in-Some.name.now front nothing)
+    failed (IsOnlyBefore SpellsBounds (codes ")") c.in-Some.tail.now) (IsOnlyBeginning SpellsRange c.args.tokens.now) c.from_residual.result c.in_err-bounds.field-0.0
+    (λ nothing. no_range c.args.tokens.now c.in-Some.tail.now c.in-Some.name.now c.in-Some.ensures nothing)
     c.from_residual.ensures c.in_err-bounds.ensures.only
 
 pub operand::range-returns-in_err-bounds-clause-found : goal.operand::range-returns-in_err-bounds-clause-found
@@ -731,22 +776,19 @@ operand::range-returns-in_err-bounds-clause-found t c = none_read c.from_residua
 pub operand::range-returns-in_err-bounds-clause-shorter : goal.operand::range-returns-in_err-bounds-clause-shorter
 operand::range-returns-in_err-bounds-clause-shorter t c = none_read c.from_residual.result _ c.from_residual.ensures.0
 
-pub operand::range-returns-in_default-after_symbol-2-clause-only : goal.operand::range-returns-in_default-after_symbol-2-clause-only
-operand::range-returns-in_default-after_symbol-2-clause-only t c =
-    let front = range_front c.args.tokens.now c.in-Some.rest.now c.in-Some-after_word.rest.now c.in-Some-after_word-2.rest.now c.in-Some-after_symbol.rest.now c.in-Some.name.now c.in-Some.ensures.0 c.in-Some.ensures.1 c.in-Some-after_word.ensures c.in-Some-after_word-2.ensures c.in-Some-after_symbol.ensures in
-    open_range c.args.tokens.now c.in-Some-after_symbol.rest.now c.in_ok-bounds.rest.now c.in-Some.name.now c.in_ok-bounds.bounds front c.in_ok-bounds.ensures.only c.in_default-after_symbol-2.ensures
+pub operand::range-returns-in_default-after_symbol-clause-only : goal.operand::range-returns-in_default-after_symbol-clause-only
+operand::range-returns-in_default-after_symbol-clause-only t c =
+    open_range c.args.tokens.now c.in-Some.tail.now c.in_ok-bounds.rest.now c.in-Some.name.now c.in_ok-bounds.bounds c.in-Some.ensures c.in_ok-bounds.ensures.only c.in_default-after_symbol.ensures
 
 pub operand::range-returns-clause-found : goal.operand::range-returns-clause-found
 operand::range-returns-clause-found t c =
-    let front = range_front c.args.tokens.now c.in-Some.rest.now c.in-Some-after_word.rest.now c.in-Some-after_word-2.rest.now c.in-Some-after_symbol.rest.now c.in-Some.name.now c.in-Some.ensures.0 c.in-Some.ensures.1 c.in-Some-after_word.ensures c.in-Some-after_word-2.ensures c.in-Some-after_symbol.ensures in
-    range_found c.args.tokens.now c.in-Some-after_symbol.rest.now c.in_ok-bounds.rest.now c.in-Some-after_symbol-2.rest.now c.in-Some.name.now c.in_ok-from_slice.field-0 c.in_ok-bounds.bounds front (c.in_ok-from_slice.ensures ∙ c.as_slice.ensures)
-    c.in_ok-bounds.ensures.found c.in-Some-after_symbol-2.ensures
+    range_found c.args.tokens.now c.in-Some.tail.now c.in_ok-bounds.rest.now c.in-Some-after_symbol.rest.now c.in-Some.name.now c.in_ok-from_slice.field-0 c.in_ok-bounds.bounds c.in-Some.ensures (c.in_ok-from_slice.ensures ∙ c.as_slice.ensures)
+    c.in_ok-bounds.ensures.found c.in-Some-after_symbol.ensures
 
 pub operand::range-returns-clause-only : goal.operand::range-returns-clause-only
 operand::range-returns-clause-only t c =
-    let front = range_front c.args.tokens.now c.in-Some.rest.now c.in-Some-after_word.rest.now c.in-Some-after_word-2.rest.now c.in-Some-after_symbol.rest.now c.in-Some.name.now c.in-Some.ensures.0 c.in-Some.ensures.1 c.in-Some-after_word.ensures c.in-Some-after_word-2.ensures c.in-Some-after_symbol.ensures in
-    only_range c.args.tokens.now c.in-Some-after_symbol.rest.now c.in_ok-bounds.rest.now c.in-Some-after_symbol-2.rest.now c.in-Some.name.now c.in_ok-from_slice.field-0 c.in_ok-bounds.bounds front (c.in_ok-from_slice.ensures ∙ c.as_slice.ensures)
-    c.in_ok-bounds.ensures.only c.in-Some-after_symbol-2.ensures
+    only_range c.args.tokens.now c.in-Some.tail.now c.in_ok-bounds.rest.now c.in-Some-after_symbol.rest.now c.in-Some.name.now c.in_ok-from_slice.field-0 c.in_ok-bounds.bounds c.in-Some.ensures (c.in_ok-from_slice.ensures ∙ c.as_slice.ensures)
+    c.in_ok-bounds.ensures.only c.in-Some-after_symbol.ensures
 
 pub operand::bounds-returns-in_err-first-clause-only : goal.operand::bounds-returns-in_err-first-clause-only
 operand::bounds-returns-in_err-first-clause-only t c =
@@ -874,48 +916,171 @@ operand::arguments-returns-clause-only t c =
 
 pub operand::argument-returns-in_err-value-clause-only : goal.operand::argument-returns-in_err-value-clause-only
 operand::argument-returns-in_err-value-clause-only t c =
-    failed (IsOnly level.Conditional c.args.tokens.now) (IsOnlyArgument c.args.tokens.now) c.from_residual.result c.in_err-value.field-0.0
-    (λ nothing. no_plain c.args.tokens.now c.in_default.ensures nothing)
-    c.from_residual.ensures c.in_err-value.ensures.only
+    failed (IsOnly level.Conditional c.in_ok-name.tail.now) (IsOnlyArgument c.args.tokens.now) c.from_residual-in_err-value.result c.in_err-value.field-0.0
+    (λ nothing. no_value_opened c.args.tokens.now c.in_ok-name.tail.now c.in_ok-name.name c.in_ok-name.ensures nothing)
+    c.from_residual-in_err-value.ensures c.in_err-value.ensures.only
 
 pub operand::argument-returns-in_err-value-clause-found : goal.operand::argument-returns-in_err-value-clause-found
-operand::argument-returns-in_err-value-clause-found t c = none_read c.from_residual.result _ c.from_residual.ensures.0
+operand::argument-returns-in_err-value-clause-found t c = none_read c.from_residual-in_err-value.result _ c.from_residual-in_err-value.ensures.0
 
 pub operand::argument-returns-in_err-value-clause-shorter : goal.operand::argument-returns-in_err-value-clause-shorter
-operand::argument-returns-in_err-value-clause-shorter t c = none_read c.from_residual.result _ c.from_residual.ensures.0
-
-pub operand::argument-returns-in_default-clause-found : goal.operand::argument-returns-in_default-clause-found
-operand::argument-returns-in_default-clause-found t c =
-    let inner : c.into_inner.result ≡ c.in_ok-value.value = c.into_inner.ensures in
-    subst (λ (e : Expr). Begins SpellsArgument c.args.tokens.now (record { name = None; value = e }) c.in_ok-value.rest.now) (sym inner)
-    (plain_found c.args.tokens.now c.in_ok-value.rest.now c.in_ok-value.value c.in_ok-value.ensures.found)
-
-pub operand::argument-returns-in_default-clause-only : goal.operand::argument-returns-in_default-clause-only
-operand::argument-returns-in_default-clause-only t c =
-    let inner : c.into_inner.result ≡ c.in_ok-value.value = c.into_inner.ensures in
-    subst (λ (e : Expr). IsOnlyArgument c.args.tokens.now (Some (record { name = None; value = e }, c.in_ok-value.rest.now))) (sym inner)
-    (only_plain c.args.tokens.now c.in_ok-value.rest.now c.in_ok-value.value c.in_default.ensures c.in_ok-value.ensures.only)
-
-pub operand::argument-returns-in_err-value-2-clause-only : goal.operand::argument-returns-in_err-value-2-clause-only
-operand::argument-returns-in_err-value-2-clause-only t c =
-    failed (IsOnly level.Conditional c.in-Some.tail.now) (IsOnlyArgument c.args.tokens.now) c.from_residual-in_err-value-2.result c.in_err-value-2.field-0.0
-    (λ nothing. no_named c.args.tokens.now c.in-Some.tail.now c.in-Some.name.now c.in-Some.ensures nothing)
-    c.from_residual-in_err-value-2.ensures c.in_err-value-2.ensures.only
-
-pub operand::argument-returns-in_err-value-2-clause-found : goal.operand::argument-returns-in_err-value-2-clause-found
-operand::argument-returns-in_err-value-2-clause-found t c = none_read c.from_residual-in_err-value-2.result _ c.from_residual-in_err-value-2.ensures.0
-
-pub operand::argument-returns-in_err-value-2-clause-shorter : goal.operand::argument-returns-in_err-value-2-clause-shorter
-operand::argument-returns-in_err-value-2-clause-shorter t c = none_read c.from_residual-in_err-value-2.result _ c.from_residual-in_err-value-2.ensures.0
+operand::argument-returns-in_err-value-clause-shorter t c = none_read c.from_residual-in_err-value.result _ c.from_residual-in_err-value.ensures.0
 
 pub operand::argument-returns-clause-found : goal.operand::argument-returns-clause-found
 operand::argument-returns-clause-found t c =
-    let inner : c.into_inner-2.result ≡ c.in_ok-value-2.value = c.into_inner-2.ensures in
-    subst (λ (e : Expr). Begins SpellsArgument c.args.tokens.now (record { name = Some c.in_ok-name.name; value = e }) c.in_ok-value-2.rest.now) (sym inner)
-    (named_found c.args.tokens.now c.in-Some.tail.now c.in_ok-value-2.rest.now c.in-Some.name.now c.in_ok-name.name c.in_ok-value-2.value c.in-Some.ensures (c.in_ok-name.ensures ∙ c.as_slice.ensures) c.in_ok-value-2.ensures.found)
+    let inner : c.into_inner-value.result ≡ c.in_ok-value.value = c.into_inner-value.ensures in
+    subst (λ (e : Expr). Begins SpellsArgument c.args.tokens.now (record { name = c.in_ok-name.name; value = e }) c.in_ok-value.rest.now) (sym inner)
+    (argument_found c.args.tokens.now c.in_ok-name.tail.now c.in_ok-value.rest.now c.in_ok-name.name c.in_ok-value.value c.in_ok-name.ensures c.in_ok-value.ensures.found)
 
 pub operand::argument-returns-clause-only : goal.operand::argument-returns-clause-only
 operand::argument-returns-clause-only t c =
-    let inner : c.into_inner-2.result ≡ c.in_ok-value-2.value = c.into_inner-2.ensures in
-    subst (λ (e : Expr). IsOnlyArgument c.args.tokens.now (Some (record { name = Some c.in_ok-name.name; value = e }, c.in_ok-value-2.rest.now))) (sym inner)
-    (only_named c.args.tokens.now c.in-Some.tail.now c.in_ok-value-2.rest.now c.in-Some.name.now c.in_ok-name.name c.in_ok-value-2.value c.in-Some.ensures (c.in_ok-name.ensures ∙ c.as_slice.ensures) c.in_ok-value-2.ensures.only)
+    let inner : c.into_inner-value.result ≡ c.in_ok-value.value = c.into_inner-value.ensures in
+    subst (λ (e : Expr). IsOnlyArgument c.args.tokens.now (Some (record { name = c.in_ok-name.name; value = e }, c.in_ok-value.rest.now))) (sym inner)
+    (only_argument c.args.tokens.now c.in_ok-name.tail.now c.in_ok-value.rest.now c.in_ok-name.name c.in_ok-value.value c.in_ok-name.ensures c.in_ok-value.ensures.only)
+
+pub operand::argument-returns-clause-shorter : goal.operand::argument-returns-clause-shorter
+operand::argument-returns-clause-shorter t c =
+    let short = opened_no_longer c.args.tokens.now c.in_ok-name.tail.now c.in_ok-name.name c.in_ok-name.ensures in
+    let value = c.in_ok-value.ensures.shorter in
+    omega (arith, short, value)
+
+-- ---- each call of the cycle is on fewer tokens, or of a function that comes before it
+
+pub operand::argument-expression-requires : goal.operand::argument-expression-requires
+operand::argument-expression-requires t c =
+    let short = opened_no_longer c.args.tokens.now c.in_ok-name.tail.now c.in_ok-name.name c.in_ok-name.ensures in
+    omega (arith, short, c.decreases)
+
+pub operand::arguments-argument-requires : goal.operand::arguments-argument-requires
+operand::arguments-argument-requires t c =
+    (omega (arith, c.decreases, c.arguments.invariant.no_longer), tt)
+
+pub operand::atom-group-requires : goal.operand::atom-group-requires
+operand::atom-group-requires t c =
+    let opening = behind_shorter (is_symbol (codes "(")) c.args.tokens.now c.in-Some.tail.now c.in-Some.ensures in
+    (omega (arith, c.decreases, opening), tt)
+
+pub operand::atom-list-requires : goal.operand::atom-list-requires
+operand::atom-list-requires t c =
+    let opening = behind_shorter (is_symbol (codes "[")) c.args.tokens.now c.in-Some-after_symbol.tail.now c.in-Some-after_symbol.ensures in
+    (omega (arith, c.decreases, opening), tt)
+
+pub operand::bounds-expression-requires : goal.operand::bounds-expression-requires
+operand::bounds-expression-requires t c =
+    (omega (arith, c.decreases), tt)
+
+pub operand::bounds-expression-requires-in-Some : goal.operand::bounds-expression-requires-in-Some
+operand::bounds-expression-requires-in-Some t c =
+    let comma = behind_shorter (is_symbol (codes ",")) c.bounds.rest.now c.in-Some.tail.now c.in-Some.ensures in
+    (omega (arith, c.decreases, comma, c.bounds.invariant.no_longer), tt)
+
+pub operand::each-range-requires : goal.operand::each-range-requires
+operand::each-range-requires t c =
+    (omega (arith, c.decreases), tt)
+
+pub operand::group-expression-requires : goal.operand::group-expression-requires
+operand::group-expression-requires t c =
+    (omega (arith, c.decreases), tt)
+
+pub operand::list-expression-requires : goal.operand::list-expression-requires
+operand::list-expression-requires t c =
+    (omega (arith, c.decreases), tt)
+
+pub operand::list-each-requires : goal.operand::list-each-requires
+operand::list-each-requires t c =
+    let first = c.in_ok-first.ensures.shorter in
+    let word = behind_shorter (is_word (codes "for")) c.in_ok-first.rest.now c.in-Some-after_word.tail.now c.in-Some-after_word.ensures in
+    (omega (arith, c.decreases, first, word), tt)
+
+pub operand::list-more_items-requires : goal.operand::list-more_items-requires
+operand::list-more_items-requires t c =
+    let first = c.in_ok-first.ensures.shorter in
+    (omega (arith, c.decreases, first), tt)
+
+pub operand::more_items-expression-requires : goal.operand::more_items-expression-requires
+operand::more_items-expression-requires t c =
+    let comma = behind_shorter (is_symbol (codes ",")) c.items.rest.now c.in-Some.tail.now c.in-Some.ensures in
+    (omega (arith, c.decreases, comma, c.items.invariant.no_longer), tt)
+
+pub operand::power-suffixed-requires : goal.operand::power-suffixed-requires
+operand::power-suffixed-requires t c =
+    (omega (arith, c.decreases), tt)
+
+pub operand::power-signed-requires : goal.operand::power-signed-requires
+operand::power-signed-requires t c =
+    let base = c.in_ok-base.ensures.shorter in
+    let sign = behind_shorter (is_symbol (codes "**")) c.in_ok-base.rest.now c.in-Some.tail.now c.in-Some.ensures in
+    (omega (arith, c.decreases, base, sign), tt)
+
+pub operand::range-bounds-requires : goal.operand::range-bounds-requires
+operand::range-bounds-requires t c =
+    let front = ap length c.in-Some.ensures.there in
+    (omega (arith, c.decreases, front), tt)
+
+pub operand::signed-power-requires : goal.operand::signed-power-requires
+operand::signed-power-requires t c =
+    (omega (arith, c.decreases), tt)
+
+pub operand::signed-signed-requires : goal.operand::signed-signed-requires
+operand::signed-signed-requires t c =
+    let first = ap length c.in-Some.ensures.cases.0 in
+    (omega (arith, c.decreases, first), tt)
+
+pub operand::subscript-expression-requires : goal.operand::subscript-expression-requires
+operand::subscript-expression-requires t c =
+    (omega (arith, c.decreases), tt)
+
+pub operand::subscript-expression-requires-2 : goal.operand::subscript-expression-requires-2
+operand::subscript-expression-requires-2 t c =
+    let low = c.in_ok-low.ensures.shorter in
+    let colon = behind_shorter (is_symbol (codes ":")) c.in_ok-low.rest.now c.in-Some-after_symbol.tail.now c.in-Some-after_symbol.ensures in
+    (omega (arith, c.decreases, low, colon), tt)
+
+pub operand::suffix-arguments-requires : goal.operand::suffix-arguments-requires
+operand::suffix-arguments-requires t c =
+    let opening = behind_shorter (is_symbol (codes "(")) c.args.tokens.now c.in-Some-after_symbol.tail.now c.in-Some-after_symbol.ensures in
+    (omega (arith, c.decreases, opening), tt)
+
+pub operand::suffix-subscript-requires : goal.operand::suffix-subscript-requires
+operand::suffix-subscript-requires t c =
+    let opening = behind_shorter (is_symbol (codes "[")) c.args.tokens.now c.in-Some-after_symbol-3.tail.now c.in-Some-after_symbol-3.ensures in
+    (omega (arith, c.decreases, opening), tt)
+
+pub operand::suffixed-atom-requires : goal.operand::suffixed-atom-requires
+operand::suffixed-atom-requires t c =
+    (omega (arith, c.decreases), tt)
+
+pub operand::suffixed-suffix-requires : goal.operand::suffixed-suffix-requires
+operand::suffixed-suffix-requires t c =
+    (omega (arith, c.decreases, c.suffixes.invariant.shorter), sym c.suffixes-test.ensures)
+
+pub operation::expression-operation-requires : goal.operation::expression-operation-requires
+operation::expression-operation-requires t c =
+    (omega (arith, c.decreases), (omega arith, omega arith))
+
+pub operation::expression-operation-requires-2 : goal.operation::expression-operation-requires-2
+operation::expression-operation-requires-2 t c =
+    let value = c.in_ok-value.ensures.shorter in
+    let word = behind_shorter (is_word (codes "if")) c.in_ok-value.rest.now c.in-Some.tail.now c.in-Some.ensures in
+    (omega (arith, c.decreases, value, word), (omega arith, omega arith))
+
+pub operation::expression-expression-requires : goal.operation::expression-expression-requires
+operation::expression-expression-requires t c =
+    let value = c.in_ok-value.ensures.shorter in
+    let if_word = behind_shorter (is_word (codes "if")) c.in_ok-value.rest.now c.in-Some.tail.now c.in-Some.ensures in
+    let condition = c.in_ok-condition.ensures.shorter in
+    let else_word = behind_shorter (is_word (codes "else")) c.in_ok-condition.rest.now c.in-Some-after_word.tail.now c.in-Some-after_word.ensures in
+    (omega (arith, c.decreases, value, if_word, condition, else_word), tt)
+
+pub operation::operand-operation-requires : goal.operation::operand-operation-requires
+operation::operand-operation-requires t c =
+    let word = behind_shorter (is_word (codes "not")) c.args.tokens.now c.in-Some.tail.now c.in-Some.ensures in
+    (omega (arith, c.decreases, word), (omega arith, omega arith))
+
+pub operation::operand-signed-requires : goal.operation::operand-signed-requires
+operation::operand-signed-requires t c =
+    (omega (arith, c.decreases), tt)
+
+pub operation::operation-operand-requires : goal.operation::operation-operand-requires
+operation::operation-operand-requires t c =
+    (omega (arith, c.decreases), (c.requires.loosest, c.requires.tightest))

@@ -1,24 +1,29 @@
-use Rattle.std.proofs.Common.{◌∷◌, List, ℕ, ap}
-use Rattle.pm_syn.specs.declared.expression.Expr.{Expr}
+use Rattle.std.proofs.Common.{Option, None}
+use Rattle.pm_syn.specs.declared.statement.Stmt.{Stmt}
+use Rattle.pm_grammar.specs.Expressions.{SpellsRange}
 use Rattle.pm_grammar.specs.Headers.{for_range}
-use Rattle.pm_grammar.specs.Reading.{read_of}
-use Rattle.pm_grammar.proofs.Headers.{for_only, no_for, no_for_end}
+use Rattle.pm_grammar.specs.Reading.{IsOnlyBeginning}
+use Rattle.pm_grammar.specs.Statements.{SpellsEnd}
+use Rattle.pm_grammar.proofs.Headers.{for_only, for_parts, no_for}
+use Rattle.pm_grammar.proofs.ReadAnswers.{nothing_given}
 use Rattle.pm_grammar.proofs.header.for_header.Goals as goal
 
-pub returns-in_default-clause-only : goal.returns-in_default-clause-only
-returns-in_default-clause-only c =
-    no_for c.args.tokens.now (read_of c.in_ok-range.field-0) (λ one closing rest is begins. c.in_ok-range.ensures.only one (closing ∷ rest) begins) (ap (read_of {A = List ℕ × List Expr}) c.in_default.is)
+pub returns-in_err-range-clause-only : goal.returns-in_err-range-clause-only
+returns-in_err-range-clause-only c =
+    nothing_given (IsOnlyBeginning SpellsRange c.args.tokens.now None) _ c.from_residual.result c.in_err-range.field-0.0
+    (λ nothing s is. no_for c.args.tokens.now nothing s is)
+    c.from_residual.ensures c.in_err-range.ensures.only
 
-pub returns-in_default-2-clause-only : goal.returns-in_default-2-clause-only
-returns-in_default-2-clause-only c =
-    no_for_end c.args.tokens.now _ _ _ (read_of c.in_ok-range.field-0) c.in_ok-body.field-0 (λ one closing rest is begins. c.in_ok-range.ensures.only one (closing ∷ rest) begins) (ap (read_of {A = List ℕ × List Expr}) c.in-Some.is) c.in_ok-body.ensures.only c.in_default-2.is
+pub returns-in_err-body-clause-only : goal.returns-in_err-body-clause-only
+returns-in_err-body-clause-only c =
+    nothing_given ((body : Option Stmt) → SpellsEnd c.in_ok-range.rest.now body → ⊥) _ c.from_residual-in_err-body.result c.in_err-body.field-0.0
+    (λ nothing s is.
+    let parts = for_parts c.args.tokens.now _ _ c.in_ok-range.ensures.only s is in
+    nothing parts.0 parts.2)
+    c.from_residual-in_err-body.ensures c.in_err-body.ensures.only
 
 pub returns-clause-found : goal.returns-clause-found
-returns-clause-found c =
-    let range = rw c.in-Some.is at c.in_ok-range.ensures.found in
-    let body = rw c.in-Some-2.is at c.in_ok-body.ensures.found in
-    for_range c.args.tokens.now _ _ _ _ range body
+returns-clause-found c = for_range c.args.tokens.now _ _ _ _ c.in_ok-range.ensures.found c.in_ok-body.ensures.found
 
 pub returns-clause-only : goal.returns-clause-only
-returns-clause-only c =
-    for_only c.args.tokens.now _ _ _ _ (read_of c.in_ok-range.field-0) c.in_ok-body.field-0 (λ one closing rest is begins. c.in_ok-range.ensures.only one (closing ∷ rest) begins) (ap (read_of {A = List ℕ × List Expr}) c.in-Some.is) c.in_ok-body.ensures.only c.in-Some-2.is
+returns-clause-only c s is = for_only c.args.tokens.now _ _ _ c.in_ok-range.ensures.only c.in_ok-body.ensures.only s is

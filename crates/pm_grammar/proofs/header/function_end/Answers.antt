@@ -1,23 +1,30 @@
-use Rattle.std.proofs.Common.{Option, ap}
-use Rattle.pm_syn.specs.declared.expression.Expr.{Expr}
-use Rattle.pm_grammar.specs.Reading.{read_of}
-use Rattle.pm_grammar.proofs.Signatures.{function_end_found, function_end_only, no_function_end, no_result}
+use Rattle.std.proofs.Common.{Option, None, codes}
+use Rattle.pm_syn.specs.declared.statement.Stmt.{Stmt}
+use Rattle.pm_grammar.specs.Reading.{IsOnlyBefore}
+use Rattle.pm_grammar.specs.Statements.{SpellsEnd, SpellsResult}
+use Rattle.pm_grammar.proofs.Headers.{pair_is}
+use Rattle.pm_grammar.proofs.ReadAnswers.{nothing_given}
+use Rattle.pm_grammar.proofs.Signatures.{function_end_found, function_end_parts, no_result}
 use Rattle.pm_grammar.proofs.header.function_end.Goals as goal
 
-pub returns-in_default-2-clause-only : goal.returns-in_default-2-clause-only
-returns-in_default-2-clause-only c =
-    no_result c.args.tokens.now c.in-Some.rest.now (read_of c.in_ok-note.field-0) c.in-Some.ensures c.in_ok-note.ensures.only (ap (read_of {A = Option Expr}) c.in_default-2.is)
+pub returns-in_err-note-clause-only : goal.returns-in_err-note-clause-only
+returns-in_err-note-clause-only c =
+    nothing_given (IsOnlyBefore SpellsResult (codes ":") c.in-Some.rest.now None) _ c.from_residual.result c.in_err-note.field-0.0
+    (λ nothing end is. no_result c.args.tokens.now c.in-Some.rest.now c.in-Some.ensures nothing end.0 end.1 is)
+    c.from_residual.ensures c.in_err-note.ensures.only
 
-pub returns-in_default-3-clause-only : goal.returns-in_default-3-clause-only
-returns-in_default-3-clause-only c =
-    no_function_end c.args.tokens.now c.in-Some.rest.now _ _ (read_of c.in_ok-note.field-0) c.in_ok-body.field-0 c.in-Some.ensures c.in_ok-note.ensures.only (ap (read_of {A = Option Expr}) c.in-Some-2.is) c.in_ok-body.ensures.only c.in_default-3.is
+pub returns-in_err-body-clause-only : goal.returns-in_err-body-clause-only
+returns-in_err-body-clause-only c =
+    nothing_given ((body : Option Stmt) → SpellsEnd c.in_ok-note.rest.now body → ⊥) _ c.from_residual-in_err-body.result c.in_err-body.field-0.0
+    (λ nothing end is.
+    let parts = function_end_parts c.args.tokens.now c.in-Some.rest.now _ _ c.in-Some.ensures c.in_ok-note.ensures.only end.0 end.1 is in
+    nothing end.1 parts.1)
+    c.from_residual-in_err-body.ensures c.in_err-body.ensures.only
 
 pub returns-clause-found : goal.returns-clause-found
-returns-clause-found c =
-    let note = rw c.in-Some-2.is at c.in_ok-note.ensures.found in
-    let body = rw c.in-Some-3.is at c.in_ok-body.ensures.found in
-    function_end_found c.args.tokens.now c.in-Some.rest.now _ _ _ c.in-Some.ensures note body
+returns-clause-found c = function_end_found c.args.tokens.now c.in-Some.rest.now _ _ _ c.in-Some.ensures c.in_ok-note.ensures.found c.in_ok-body.ensures.found
 
 pub returns-clause-only : goal.returns-clause-only
-returns-clause-only c =
-    function_end_only c.args.tokens.now c.in-Some.rest.now _ _ _ (read_of c.in_ok-note.field-0) c.in_ok-body.field-0 c.in-Some.ensures c.in_ok-note.ensures.only (ap (read_of {A = Option Expr}) c.in-Some-2.is) c.in_ok-body.ensures.only c.in-Some-3.is
+returns-clause-only c end is =
+    let parts = function_end_parts c.args.tokens.now c.in-Some.rest.now _ _ c.in-Some.ensures c.in_ok-note.ensures.only end.0 end.1 is in
+    pair_is end _ _ parts.0 (c.in_ok-body.ensures.only end.1 parts.1)

@@ -1,30 +1,30 @@
-use Rattle.std.proofs.Common.{◌∷◌, ◌∙◌, ap, Some, subst, sym, refl}
+use Rattle.std.proofs.Common.{◌∷◌, ◌∙◌, None, ap, refl, subst, sym}
 use Rattle.std.proofs.lemmas.Bool.{true≢false}
 use Rattle.pm_syn.specs.declared.statement.Stmt as leaf
+use Rattle.pm_grammar.specs.Reading.{IsOnly}
 use Rattle.pm_grammar.specs.Statements.{SpellsSimple}
-use Rattle.pm_grammar.proofs.SimpleStatements.{assertion_found, assertion_read, found_some, no_assertion, only_none, only_some}
+use Rattle.pm_grammar.specs.declared.level.Level.TheVariants as level
+use Rattle.pm_grammar.proofs.ReadAnswers.{nothing_given}
+use Rattle.pm_grammar.proofs.SimpleStatements.{assertion_found, assertion_read, no_assertion}
 use Rattle.pm_grammar.proofs.simple.assertion.Goals as goal
 
-pub returns-in_default-clause-only : goal.returns-in_default-clause-only
-returns-in_default-clause-only c s word is spelled =
-    let all = c.args.tokens.now in
-    absurd (no_assertion all (only_none all _ c.in_default.is c.in_ok-tree.ensures.only) s word is spelled)
+pub returns-in_err-tree-clause-only : goal.returns-in_err-tree-clause-only
+returns-in_err-tree-clause-only c =
+    nothing_given (IsOnly level.Conditional c.args.tokens.now None) _ c.from_residual.result c.in_err-tree.field-0.0
+    (λ nothing s spelled. no_assertion c.args.tokens.now nothing s spelled.0 spelled.1 spelled.2)
+    c.from_residual.ensures c.in_err-tree.ensures.only
 
 pub returns-then-ends_assertion-clause-found : goal.returns-then-ends_assertion-clause-found
 returns-then-ends_assertion-clause-found c word is =
-    let all = c.args.tokens.now in
-    let begun = found_some all _ c.in-Some.tree c.in-Some.rest c.in-Some.is c.in_ok-tree.ensures.found in
-    subst (λ e. SpellsSimple (word ∷ all) (leaf.Assert e)) (sym c.into_inner.ensures)
-    (assertion_found word all c.in-Some.rest.now c.in-Some.tree is begun (c.if-ends_assertion.ensures.0 refl))
+    subst (λ e. SpellsSimple (word ∷ c.args.tokens.now) (leaf.Assert e)) (sym c.into_inner.ensures)
+    (assertion_found word c.args.tokens.now c.in_ok-tree.rest.now c.in_ok-tree.tree is c.in_ok-tree.ensures.found (c.if-ends_assertion.ensures.0 refl))
 
 pub returns-then-ends_assertion-clause-only : goal.returns-then-ends_assertion-clause-only
-returns-then-ends_assertion-clause-only c s word is spelled =
-    let all = c.args.tokens.now in
-    let read = assertion_read all c.in-Some.rest.now c.in-Some.tree (only_some all _ c.in-Some.tree c.in-Some.rest c.in-Some.is c.in_ok-tree.ensures.only) s word is spelled in
-    ap Some (ap leaf.Assert c.into_inner.ensures ∙ sym read.1)
+returns-then-ends_assertion-clause-only c s spelled =
+    let read = assertion_read c.args.tokens.now c.in_ok-tree.rest.now c.in_ok-tree.tree c.in_ok-tree.ensures.only s spelled.0 spelled.1 spelled.2 in
+    read.1 ∙ ap leaf.Assert (sym c.into_inner.ensures)
 
 pub returns-else-ends_assertion-clause-only : goal.returns-else-ends_assertion-clause-only
-returns-else-ends_assertion-clause-only c s word is spelled =
-    let all = c.args.tokens.now in
-    let read = assertion_read all c.in-Some.rest.now c.in-Some.tree (only_some all _ c.in-Some.tree c.in-Some.rest c.in-Some.is c.in_ok-tree.ensures.only) s word is spelled in
-    absurd (true≢false (sym (c.if-ends_assertion.ensures.1 read.0)))
+returns-else-ends_assertion-clause-only c s spelled =
+    let read = assertion_read c.args.tokens.now c.in_ok-tree.rest.now c.in_ok-tree.tree c.in_ok-tree.ensures.only s spelled.0 spelled.1 spelled.2 in
+    true≢false (sym (c.if-ends_assertion.ensures.1 read.0))

@@ -1,20 +1,19 @@
-use Rattle.std.proofs.Common.{Some, ap, sym}
-use Rattle.pm_grammar.proofs.SimpleStatements.{only_none, only_some, some_tokens, whole_none, whole_some}
+use Rattle.std.proofs.Common.{None, sym}
+use Rattle.pm_grammar.specs.Reading.{IsOnly}
+use Rattle.pm_grammar.specs.declared.level.Level.TheVariants as level
+use Rattle.pm_grammar.proofs.ReadAnswers.{nothing_given}
+use Rattle.pm_grammar.proofs.SimpleStatements.{some_tokens, whole_none, whole_some}
 use Rattle.pm_grammar.proofs.simple.whole_expression.Goals as goal
 
-pub returns-in_default-clause-only : goal.returns-in_default-clause-only
-returns-in_default-clause-only c e spelled =
-    let all = c.args.tokens.now in
-    absurd (whole_none all (only_none all _ c.in_default.is c.in_ok-tree.ensures.only) e spelled)
+pub returns-in_err-tree-clause-only : goal.returns-in_err-tree-clause-only
+returns-in_err-tree-clause-only c =
+    nothing_given (IsOnly level.Conditional c.args.tokens.now None) _ c.from_residual.result c.in_err-tree.field-0.0
+    (λ nothing e spelled. whole_none c.args.tokens.now nothing e spelled)
+    c.from_residual.ensures c.in_err-tree.ensures.only
 
 pub returns-then-is_empty-clause-only : goal.returns-then-is_empty-clause-only
-returns-then-is_empty-clause-only c e spelled =
-    let all = c.args.tokens.now in
-    let read = whole_some all c.in-Some.rest.now c.in-Some.tree (only_some all _ c.in-Some.tree c.in-Some.rest c.in-Some.is c.in_ok-tree.ensures.only) e spelled in
-    ap Some (sym read.0)
+returns-then-is_empty-clause-only c e spelled = (whole_some c.args.tokens.now c.in_ok-tree.rest.now c.in_ok-tree.tree c.in_ok-tree.ensures.only e spelled).0
 
 pub returns-else-is_empty-clause-only : goal.returns-else-is_empty-clause-only
 returns-else-is_empty-clause-only c e spelled =
-    let all = c.args.tokens.now in
-    let read = whole_some all c.in-Some.rest.now c.in-Some.tree (only_some all _ c.in-Some.tree c.in-Some.rest c.in-Some.is c.in_ok-tree.ensures.only) e spelled in
-    absurd (some_tokens c.in-Some.rest.now c.if-is_empty.ensures (sym read.1))
+    some_tokens c.in_ok-tree.rest.now c.if-is_empty.ensures (sym (whole_some c.args.tokens.now c.in_ok-tree.rest.now c.in_ok-tree.tree c.in_ok-tree.ensures.only e spelled).1)
