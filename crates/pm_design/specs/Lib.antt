@@ -1,0 +1,9 @@
+pub mod Widths
+pub mod Lookups
+pub mod Names
+pub mod Elaborated
+pub mod Typing
+pub mod Settings
+pub mod Sound
+pub mod Instances
+pub mod Sample

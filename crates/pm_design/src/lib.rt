@@ -9,9 +9,12 @@
 mod body;
 mod connection;
 mod design;
+pub mod laws;
+mod plan;
 mod signal;
 
 pub use body::{Block, BlockSort, Ex, Method, Side, St};
 pub use connection::{Bind, Callee, Caller, Join, Part, Rule, Term, Tie};
 pub use design::{Child, Design, Kind, State};
+pub use plan::{Edges, Flat, Instance, Nets, Plan, Row};
 pub use signal::{Field, Role, Shape, Signal};

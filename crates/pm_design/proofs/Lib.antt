@@ -1,0 +1,4 @@
+pub mod Typings
+pub mod Soundness
+pub mod Progressing
+pub mod Samples

@@ -1,0 +1,18 @@
+//! Laws of designs. No code calls these functions: each one proves its law.
+ghost use Rattle.std.specs.Prelude.{◌≡◌};
+ghost use Rattle.pm_design.specs.Instances.{flat_bits, instances_of};
+ghost use Rattle.pm_design.specs.Sample.{sample, sample_instances};
+ghost use Rattle.pm_design.specs.Sound.{IsSound};
+
+/// There is a sound design, with a child, a connection, an update block and a block at the clock edge.
+#[tactic(auto, using(crate::proofs::Samples::sample_sound))]
+pub fn a_design_is_sound()
+    ensures { IsSound sample }
+{}
+
+/// The instances and the flat bits of that design.
+#[tactic(auto, using(crate::proofs::Samples::instances_of_sample))]
+pub fn a_design_has_its_instances()
+    ensures instances { instances_of sample ≡ sample_instances }
+    ensures bits { flat_bits sample ≡ 34 }
+{}
