@@ -2,3 +2,4 @@ pub mod Typings
 pub mod Soundness
 pub mod Progressing
 pub mod Samples
+pub mod Counts

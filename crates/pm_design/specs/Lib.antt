@@ -7,3 +7,7 @@ pub mod Settings
 pub mod Sound
 pub mod Instances
 pub mod Sample
+pub mod Layout
+pub mod Calls
+pub mod Nodes
+pub mod Runnable

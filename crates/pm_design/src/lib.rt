@@ -16,5 +16,5 @@ mod signal;
 pub use body::{Block, BlockSort, Ex, Method, Side, St};
 pub use connection::{Bind, Callee, Caller, Join, Part, Rule, Term, Tie};
 pub use design::{Child, Design, Kind, State};
-pub use plan::{Edges, Flat, Instance, Nets, Plan, Row};
+pub use plan::{Edges, Flat, FlatPart, Instance, Nets, Plan, Row};
 pub use signal::{Field, Role, Shape, Signal};

@@ -19,6 +19,15 @@ pub struct Instance {
     pub first_state: u32,
 }
 
+/// Some neighbouring flat bits.
+#[derive(Clone, Copy, PartialEq, Eq)]
+pub struct FlatPart {
+    /// The first of them.
+    pub bit: u32,
+    /// How many they are.
+    pub width: u32,
+}
+
 /// Which flat bits are connected. Flat bits are numbered by instance, then signal, then bit.
 #[derive(Drop)]
 pub struct Nets {

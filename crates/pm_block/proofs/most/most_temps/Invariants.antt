@@ -1,0 +1,7 @@
+use Rattle.std.proofs.Common.{◌≡◌, max, drop}
+use Rattle.pm_block.specs.Tables.{most, temps_in}
+use Rattle.pm_block.proofs.most.most_temps.Given as goal
+
+-- the most so far, and of the blocks that are left
+abbrev pub invariant-loop-flat : goal.invariant-loop-flat
+invariant-loop-flat l = max l.most (most (temps_in l.plan) (drop l.flat-index l.flats)) ≡ most (temps_in l.plan) l.flats

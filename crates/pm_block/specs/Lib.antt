@@ -1,0 +1,10 @@
+pub mod Places
+pub mod Value
+pub mod Run
+pub mod Plans
+pub mod Waiting
+pub mod Sites
+pub mod Stored
+pub mod Assignments
+pub mod Tables
+pub mod First
