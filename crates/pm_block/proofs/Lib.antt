@@ -6,6 +6,7 @@ pub mod Runs
 pub mod Tabled
 pub mod Firsts
 pub mod Zeros
+pub mod ValuesFit
 pub mod Mosts
 pub mod Concatenations
 pub mod Elements

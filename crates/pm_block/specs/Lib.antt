@@ -8,3 +8,4 @@ pub mod Stored
 pub mod Assignments
 pub mod Tables
 pub mod First
+pub mod ValueLaws

@@ -3,6 +3,7 @@
 
 mod block_run;
 mod first;
+pub mod laws;
 mod lookup;
 mod most;
 mod object;

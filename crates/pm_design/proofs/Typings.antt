@@ -11,9 +11,9 @@ use Rattle.pm_design.specs.declared.connection.Part.{Part}
 use Rattle.pm_design.specs.declared.body.Ex.{Ex, Ex-F, fold-Ex, fold-roll-Ex}
 use Rattle.pm_design.specs.declared.body.Ex.TheVariants as ex
 use Rattle.pm_design.specs.Typing.{Sight, Typing, typing, typing_step, typed, result_width, element_width, are_elements, state_of, is_number, is_deque}
-use Rattle.pm_design.specs.Widths.{total, log_of}
+use Rattle.pm_design.specs.Widths.{total, is_width, log_of}
 
-pub typing_const : (s : Sight) (c : Word) → typing s (ex.Const c) ≡ (typed true c.width)
+pub typing_const : (s : Sight) (c : Word) → typing s (ex.Const c) ≡ (typed (is_width c.width && nat_lt c.value (2 ^ c.width)) c.width)
 unfolding typing
 typing_const s c = ap (typing s) (sym (ex.rolls-Const c)) ∙ fold-roll-Ex Typing (typing_step s) (Ex-F.Const c)
 

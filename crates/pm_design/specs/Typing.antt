@@ -10,7 +10,7 @@ use Rattle.pm_design.specs.declared.body.St.{St, St-F, fold-St}
 use Rattle.pm_design.specs.declared.connection.Callee.{Callee}
 use Rattle.pm_design.specs.declared.connection.Part.{Part}
 use Rattle.pm_design.specs.Lookups.{Signature}
-use Rattle.pm_design.specs.Widths.{total, log_of}
+use Rattle.pm_design.specs.Widths.{total, is_width, log_of}
 
 -- the width of a state, and how many items it holds at most, or 0 if it is a number
 pub record Holding : Type 0 where
@@ -79,7 +79,7 @@ is_temp s width t = nat_lt t (length s.temps) && slice_index_or s.temps t 0 == w
 
 -- the typing of a node, once each operand has its typing
 abbrev pub typing_step : Sight → Ex-F Typing → Typing
-typing_step s (Ex-F.Const c) = typed true c.width
+typing_step s (Ex-F.Const c) = typed (is_width c.width && nat_lt c.value (2 ^ c.width)) c.width
 typing_step s (Ex-F.Get p) = typed (s.reads p) p.width
 typing_step s (Ex-F.Temp t lo n) =
     typed (nat_lt t (length s.temps) && (nat_lt 0 n && nat_le (lo + n) (slice_index_or s.temps t 0))) n
