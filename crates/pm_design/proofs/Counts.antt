@@ -168,4 +168,3 @@ some_statement_nodes_step (St-F.If c xs ys) inside = omega arith
 pub some_statement_nodes : (inside : Inside) (x : St) → 0 < statement_nodes inside x
 unfolding statement_nodes
 some_statement_nodes inside x = rw (fold_out-St ℕ (statement_nodes_step inside) x) (some_statement_nodes_step (map-St St ℕ (fold-St ℕ (statement_nodes_step inside)) (out-St x)) inside)
-

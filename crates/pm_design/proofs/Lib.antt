@@ -3,3 +3,4 @@ pub mod Soundness
 pub mod Progressing
 pub mod Samples
 pub mod Counts
+pub mod SamplePlans

@@ -9,6 +9,7 @@ use Rattle.pm_design.specs.declared.connection.Part.{Part}
 use Rattle.pm_design.specs.declared.design.Design.{Design}
 use Rattle.pm_design.specs.declared.design.Kind.{Kind}
 use Rattle.pm_design.specs.declared.plan.Instance.{Instance}
+use Rattle.pm_design.specs.declared.plan.Plan.{Plan}
 use Rattle.pm_design.specs.declared.signal.Role.{Role}
 use Rattle.pm_design.specs.declared.signal.Role.TheVariants as role
 use Rattle.pm_design.specs.declared.signal.Signal.{Signal}
@@ -93,3 +94,24 @@ abbrev pub sample_instances : List Instance
 sample_instances =
     (record { path = codes "s"; kind = 1; parent = None; children = 1 ∷ []; first_bit = 0; first_state = 0 })
     ∷ (record { path = codes "s.add"; kind = 0; parent = Some 0; children = []; first_bit = 17; first_state = 0 }) ∷ []
+
+-- the nets of its flat bits: the child's `reset` and `in_` are those of the parent
+abbrev pub sample_nets : List ℕ
+sample_nets =
+    0 ∷ 1 ∷ 2 ∷ 3 ∷ 4 ∷ 5 ∷ 6 ∷ 7 ∷ 8 ∷ 9 ∷ 10 ∷ 11 ∷ 12 ∷ 13 ∷ 14 ∷ 15 ∷ 16
+    ∷ 0 ∷ 1 ∷ 2 ∷ 3 ∷ 4 ∷ 5 ∷ 6 ∷ 7 ∷ 8 ∷ 17 ∷ 18 ∷ 19 ∷ 20 ∷ 21 ∷ 22 ∷ 23 ∷ 24 ∷ []
+
+-- a plan of it
+abbrev pub sample_plan : Plan
+sample_plan = record {
+  design = sample;
+  instances = sample_instances;
+  nets = record { net_of = sample_nets; count = 25 };
+  scheduled = (record { instance = 1; block = 0; name = codes "s.add.up" }) ∷ [];
+  edge_blocks = (record { instance = 0; block = 0; name = codes "s.keep" }) ∷ [];
+  edges = record { count = 1; after = [] ∷ []; explicit = [] ∷ []; conflicts = [] ∷ [] };
+  order = 0 ∷ [];
+  inputs = 1 ∷ [];
+  ports = 1 ∷ 2 ∷ [];
+  work = 6;
+}
