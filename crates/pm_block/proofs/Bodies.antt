@@ -1,6 +1,6 @@
 -- One statement, and one more statement of a body.
 use std.Path.{fun_ext}
-use Rattle.std.proofs.Common.{◌≡◌, ◌∙◌, ◌+◌, ◌<◌, ◌==◌, ◌&&◌, ℕ, zero, suc, List, [], ◌∷◌, map, refl, sym, ap, subst, Bool, true, false, length, drop, set, nat_lt, arith, eq-eqb, eqb-true, add-one, drop-cons, ap₂, ltb-true}
+use Rattle.std.proofs.Common.{◌≡◌, ◌∙◌, ◌+◌, ◌<◌, ◌==◌, ℕ, zero, suc, List, [], ◌∷◌, refl, sym, ap, subst, Bool, true, false, length, drop, set, arith, eq-eqb, eqb-true, add-one, drop-cons, ap₂, ltb-true}
 use Rattle.std.specs.Prelude.{if◌then◌else◌, slice_index_or, IsTrue}
 use Rattle.std.specs.List.{list_all}
 use Rattle.std.proofs.lemmas.Bool.{and_parts, eqb-false}
@@ -11,7 +11,7 @@ use Rattle.pm_design.specs.declared.body.St.{St}
 use Rattle.pm_design.specs.declared.body.St.TheVariants as st
 use Rattle.pm_design.specs.declared.connection.Part.{Part}
 use Rattle.pm_design.specs.Layout.{Layout}
-use Rattle.pm_design.specs.Typing.{Sight, is_sound, is_temp, typing}
+use Rattle.pm_design.specs.Typing.{Sight, is_sound, typing}
 use Rattle.pm_design.proofs.Soundness.{sound_set_temp}
 use Rattle.pm_block.specs.declared.site.Site.{Site}
 use Rattle.pm_block.specs.Plans.{plain_sight, widths_of}

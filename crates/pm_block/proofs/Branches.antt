@@ -1,5 +1,5 @@
 -- The branches of a choice.
-use Rattle.std.proofs.Common.{◌≡◌, ◌∙◌, ◌+◌, ◌&&◌, ℕ, List, [], ◌∷◌, map, refl, ap, ap₂, sym, subst, Bool, true, arith}
+use Rattle.std.proofs.Common.{◌≡◌, ◌∙◌, ◌+◌, ◌&&◌, List, [], ◌∷◌, map, refl, ap, sym, subst, Bool, true}
 use Rattle.std.specs.Prelude.{IsTrue}
 use Rattle.std.specs.List.{list_all}
 use Rattle.std.proofs.lemmas.Bool.{and_parts}
@@ -7,7 +7,7 @@ use Rattle.pm_design.specs.declared.body.Ex.{Ex}
 use Rattle.pm_design.specs.declared.body.St.{St}
 use Rattle.pm_design.specs.declared.body.St.TheVariants as st
 use Rattle.pm_design.specs.Nodes.{Inside, body_nodes, nodes, statement_nodes}
-use Rattle.pm_design.specs.Typing.{Sight, is_sound, typing}
+use Rattle.pm_design.specs.Typing.{Sight, is_sound}
 use Rattle.pm_design.proofs.Counts.{nodes_of_if}
 use Rattle.pm_design.proofs.Soundness.{sound_if}
 use Rattle.pm_block.specs.Assignments.{all_assignments, assignments}

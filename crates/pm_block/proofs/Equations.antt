@@ -1,13 +1,12 @@
 -- The equations of `value`, one for each form of expression.
-use Rattle.std.proofs.Common.{◌≡◌, ◌∙◌, ◌+◌, ◌-◌, ◌*◌, ◌^◌, ◌==◌, ◌&&◌, ◌||◌, ℕ, zero, suc, List, [], ◌∷◌, map, refl, sym, ap, Bool, true, false, length, nat_lt, nat_le, Option, None, Some}
-use Rattle.std.specs.Prelude.{if◌then◌else◌, slice_index_or}
+use Rattle.std.proofs.Common.{◌≡◌, ◌∙◌, ◌+◌, ◌-◌, ◌==◌, ℕ, List, map, sym, ap}
+use Rattle.std.specs.Prelude.{if◌then◌else◌}
 use Rattle.pm_bits.specs.Word.{Word}
 use Rattle.pm_bits.specs.declared.operator.Op.{Op}
 use Rattle.pm_bits.specs.declared.operator.Fold.{Fold}
-use Rattle.pm_design.specs.declared.body.Side.{Side}
 use Rattle.pm_design.specs.declared.connection.Callee.{Callee}
 use Rattle.pm_design.specs.declared.connection.Part.{Part}
-use Rattle.pm_design.specs.declared.body.Ex.{Ex, Ex-F, fold-Ex, fold-roll-Ex}
+use Rattle.pm_design.specs.declared.body.Ex.{Ex, Ex-F, fold-roll-Ex}
 use Rattle.pm_design.specs.declared.body.Ex.TheVariants as ex
 use Rattle.pm_bits.specs.Bitwise.{complement_of}
 use Rattle.pm_bits.specs.Operator.{result_of, folding_of}

@@ -1,5 +1,5 @@
 -- What is made of each instance in turn.
-use Rattle.std.proofs.Common.{◌≡◌, ◌∙◌, ◌+◌, ◌<◌, ℕ, zero, suc, List, [], ◌∷◌, ◌++◌, length, take, drop, arith, ap, refl, subst, sym, add-one, drop-cons, map, ap₂, nat_lt, Bool, true, false, ◌&&◌, ◌≤◌, ltb-true}
+use Rattle.std.proofs.Common.{◌≡◌, ◌∙◌, ◌+◌, ◌<◌, ℕ, zero, suc, List, [], ◌∷◌, ◌++◌, length, drop, arith, ap, refl, subst, sym, add-one, map, ap₂, nat_lt, Bool, true, false, ◌&&◌, ltb-true}
 use Rattle.std.specs.Prelude.{IsTrue, slice_index_or, Option, None, Some}
 use Rattle.std.specs.List.{list_all}
 use Rattle.std.proofs.lemmas.Bool.{ltb-false}
@@ -17,7 +17,6 @@ use Rattle.pm_design.specs.declared.design.Design.{Design}
 use Rattle.pm_design.specs.declared.plan.FlatPart.{FlatPart}
 use Rattle.pm_design.specs.declared.plan.Instance.{Instance}
 use Rattle.pm_design.specs.declared.plan.Plan.{Plan}
-use Rattle.pm_design.specs.declared.signal.Signal.{Signal}
 use Rattle.pm_design.specs.Layout.{Layout, instance_of, layout_of, no_instance, scope_of, signals_from, signals_of}
 use Rattle.pm_design.specs.Lookups.{kind_of, no_kind}
 

@@ -1,10 +1,8 @@
 -- The greatest number of blocks.
-use Rattle.std.proofs.Common.{◌≡◌, ◌∙◌, ◌+◌, ◌<◌, ℕ, zero, suc, List, [], ◌∷◌, length, drop, max, arith, ap, refl, sym, add-one, drop-cons}
+use Rattle.std.proofs.Common.{◌≡◌, ◌+◌, ◌<◌, ℕ, suc, List, ◌∷◌, length, drop, max, ap, sym, add-one, drop-cons}
 use Rattle.std.specs.Prelude.{slice_index_or}
-use Rattle.pm_design.specs.declared.body.St.{St}
 use Rattle.pm_design.specs.declared.plan.Flat.{Flat}
 use Rattle.pm_design.specs.Nodes.{Inside}
-use Rattle.pm_block.specs.Assignments.{all_assignments, assignments}
 use Rattle.pm_block.specs.Tables.{most}
 
 -- one more block

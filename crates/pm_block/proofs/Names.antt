@@ -1,6 +1,6 @@
 -- The places of a part.
 use std.Path.{fun_ext}
-use Rattle.std.proofs.Common.{◌≡◌, ◌+◌, ℕ, List, refl, ap, add_assoc}
+use Rattle.std.proofs.Common.{◌≡◌, ℕ, List, ap, add_assoc}
 use Rattle.std.specs.Prelude.{slice_index_or}
 use Rattle.pm_design.specs.declared.connection.Part.{Part}
 use Rattle.pm_design.specs.Layout.{Layout, net_from, first_bit_of, flat_part}

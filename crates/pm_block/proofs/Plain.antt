@@ -1,11 +1,10 @@
 -- What a body has nowhere that has neither states nor methods.
-use Rattle.std.proofs.Common.{◌≡◌, ◌∙◌, ◌+◌, ◌&&◌, ◌==◌, ℕ, List, [], ap, Bool, false, refl, length, nat_lt, arith}
+use Rattle.std.proofs.Common.{◌≡◌, ◌∙◌, ◌&&◌, ◌==◌, ℕ, List, [], ap, Bool, false, refl, length, nat_lt, arith}
 use Rattle.std.proofs.lemmas.Bool.{le-ltb}
-use Rattle.std.specs.Prelude.{IsTrue, Option}
+use Rattle.std.specs.Prelude.{Option}
 use Rattle.pm_design.specs.declared.body.Ex.{Ex}
 use Rattle.pm_design.specs.declared.body.Ex.TheVariants as ex
 use Rattle.pm_design.specs.declared.body.Side.{Side}
-use Rattle.pm_design.specs.declared.body.St.{St}
 use Rattle.pm_design.specs.declared.body.St.TheVariants as st
 use Rattle.pm_design.specs.declared.connection.Callee.{Callee}
 use Rattle.pm_design.specs.Layout.{Layout}

@@ -1,5 +1,5 @@
 -- The block that is to run.
-use Rattle.std.proofs.Common.{◌≡◌, ◌∙◌, ◌+◌, ◌<◌, ◌≤◌, ◌^◌, ◌&&◌, ℕ, zero, suc, List, [], ◌∷◌, Bool, true, length, max, nat_lt, nat_le, arith, ltb-true, leb-true, ap, refl, subst, sym}
+use Rattle.std.proofs.Common.{◌+◌, ◌<◌, ◌≤◌, ◌^◌, ℕ, zero, suc, List, [], ◌∷◌, length, nat_le, arith, ltb-true, leb-true, refl}
 use Rattle.std.specs.Prelude.{IsTrue, slice_index_or}
 use Rattle.std.specs.List.{list_all}
 use Rattle.pm_design.specs.declared.body.Block.{Block}
@@ -8,12 +8,11 @@ use Rattle.pm_design.specs.declared.plan.Flat.{Flat}
 use Rattle.pm_design.specs.declared.plan.FlatPart.{FlatPart}
 use Rattle.pm_design.specs.declared.plan.Plan.{Plan}
 use Rattle.pm_design.specs.Layout.{instance_of, layout_of}
-use Rattle.pm_design.specs.Lookups.{kind_of}
 use Rattle.pm_design.specs.Runnable.{IsRunnable, block_at, is_there, kind_at, no_block}
 use Rattle.pm_design.specs.Widths.{is_width}
 use Rattle.pm_block.specs.declared.block_run.Run.{Run}
 use Rattle.pm_block.specs.declared.block_run.Run.TheVariants as which
-use Rattle.pm_block.specs.Tables.{assignments_in, can_run, ends_below, flat_of, most, most_in, no_flat, temps_in}
+use Rattle.pm_block.specs.Tables.{can_run, ends_below, flat_of, most, most_in, no_flat}
 use Rattle.pm_block.proofs.Elements.{element_passes}
 use Rattle.pm_block.proofs.There.{has_kind, is_block}
 

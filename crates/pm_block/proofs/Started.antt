@@ -1,5 +1,5 @@
 -- Temporaries that were set to 0 up to here.
-use Rattle.std.proofs.Common.{◌≡◌, ◌∙◌, ◌+◌, ◌<◌, ℕ, zero, suc, List, [], ◌∷◌, refl, ap, sym, length, set, map, arith, add-one, ap₂}
+use Rattle.std.proofs.Common.{◌≡◌, ◌∙◌, ◌+◌, ◌<◌, ℕ, zero, suc, List, [], ◌∷◌, refl, ap, length, set, map, arith, add-one, ap₂}
 use Rattle.std.specs.Prelude.{slice_index_or}
 use Rattle.pm_bits.specs.Word.{Word}
 use Rattle.pm_block.specs.Plans.{widths_of}

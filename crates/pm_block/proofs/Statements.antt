@@ -1,15 +1,11 @@
 -- The equations of `run`, one for each form of statement.
-use Rattle.std.proofs.Common.{◌≡◌, ◌∙◌, ◌+◌, ◌-◌, ◌*◌, ◌^◌, ◌==◌, ◌&&◌, ◌||◌, ℕ, zero, suc, List, [], ◌∷◌, map, refl, sym, ap, Bool, true, false, length, nat_lt, nat_le, Option, None, Some}
-use Rattle.std.specs.Prelude.{if◌then◌else◌, slice_index_or}
-use Rattle.pm_bits.specs.Word.{Word}
-use Rattle.pm_bits.specs.declared.operator.Op.{Op}
-use Rattle.pm_bits.specs.declared.operator.Fold.{Fold}
+use Rattle.std.proofs.Common.{◌≡◌, ◌∙◌, ◌==◌, ℕ, List, [], ◌∷◌, map, sym, ap, Bool, Option}
+use Rattle.std.specs.Prelude.{if◌then◌else◌}
 use Rattle.pm_design.specs.declared.body.Side.{Side}
 use Rattle.pm_design.specs.declared.connection.Callee.{Callee}
 use Rattle.pm_design.specs.declared.connection.Part.{Part}
-use Rattle.pm_design.specs.declared.body.Ex.{Ex, Ex-F, fold-Ex, fold-roll-Ex}
-use Rattle.pm_design.specs.declared.body.Ex.TheVariants as ex
-use Rattle.pm_design.specs.declared.body.St.{St, St-F, fold-St, fold-roll-St}
+use Rattle.pm_design.specs.declared.body.Ex.{Ex}
+use Rattle.pm_design.specs.declared.body.St.{St, St-F, fold-roll-St}
 use Rattle.pm_design.specs.declared.body.St.TheVariants as st
 use Rattle.pm_block.specs.Run.{Scene, State, run, run_step, in_turn, assigned, put_part, picked_put, put_temp, put_target, pushed, popped, popped_place, value_in, with_items, words_of, returned}
 use Rattle.pm_block.specs.Value.{item_of}

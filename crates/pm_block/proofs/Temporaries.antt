@@ -1,16 +1,13 @@
 -- Temporaries of sound bodies.
-use Rattle.std.proofs.Common.{◌≡◌, ◌∙◌, ◌+◌, ◌<◌, ◌≤◌, ◌&&◌, ◌==◌, ℕ, zero, suc, List, [], ◌∷◌, map, refl, ap, subst, Bool, true, length, nat_lt, nat_le, arith, ltb-true, leb-true, eqb-true}
+use Rattle.std.proofs.Common.{◌≡◌, ◌∙◌, ◌+◌, ◌<◌, ◌≤◌, ◌&&◌, ℕ, zero, suc, List, [], ◌∷◌, refl, ap, subst, length, nat_lt, nat_le, arith, ltb-true, leb-true}
 use Rattle.std.specs.Prelude.{IsTrue, slice_index_or}
 use Rattle.std.proofs.lemmas.Bool.{and_parts}
 use Rattle.std.proofs.lemmas.List.{length-map}
 use Rattle.pm_bits.specs.Word.{Word}
 use Rattle.pm_design.specs.declared.body.Ex.{Ex}
 use Rattle.pm_design.specs.declared.body.Ex.TheVariants as ex
-use Rattle.pm_design.specs.declared.body.St.{St}
-use Rattle.pm_design.specs.declared.body.St.TheVariants as st
 use Rattle.pm_design.specs.Layout.{Layout}
-use Rattle.pm_design.specs.Typing.{Typing, typing, is_sound, is_temp}
-use Rattle.pm_design.proofs.Soundness.{sound_set_temp}
+use Rattle.pm_design.specs.Typing.{Typing, typing}
 use Rattle.pm_design.proofs.Typings.{typing_temp}
 use Rattle.pm_block.specs.Plans.{plain_sight, widths_of}
 use Rattle.pm_block.specs.Run.{temps_of}

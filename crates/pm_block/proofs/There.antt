@@ -1,14 +1,13 @@
 -- Blocks that are there.
-use Rattle.std.proofs.Common.{◌≡◌, ◌∙◌, ◌<◌, ◌&&◌, ℕ, zero, suc, List, [], ◌∷◌, Bool, true, length, nat_lt, arith, ltb-true, ap, refl, sym}
+use Rattle.std.proofs.Common.{◌≡◌, ◌∙◌, ◌<◌, ℕ, zero, suc, List, [], ◌∷◌, length, nat_lt, arith, ltb-true, ap, sym}
 use Rattle.std.specs.Prelude.{IsTrue, slice_get, slice_index_or, unwrap_or, Option, None, Some}
 use Rattle.std.proofs.lemmas.Option.{get_or_from_slice_get, unwrap_or-slice_get}
-use Rattle.std.specs.List.{list_all}
 use Rattle.std.proofs.lemmas.Bool.{and_parts}
 use Rattle.pm_design.specs.declared.design.Kind.{Kind}
 use Rattle.pm_design.specs.declared.plan.Flat.{Flat}
 use Rattle.pm_design.specs.declared.plan.Plan.{Plan}
 use Rattle.pm_design.specs.Layout.{instance_of}
-use Rattle.pm_design.specs.Lookups.{kind_of, no_kind}
+use Rattle.pm_design.specs.Lookups.{no_kind}
 use Rattle.pm_design.specs.Runnable.{is_there, kind_at}
 
 -- its instance is there

@@ -2,10 +2,10 @@
 use Rattle.std.proofs.Common.{◌≡◌, ◌∙◌, ◌+◌, ◌-◌, ◌*◌, ◌<◌, ◌≤◌, ◌^◌, ◌==◌, ◌&&◌, ℕ, zero, suc, List, [], ◌∷◌, map, refl, sym, ap, subst, Bool, true, false, length, nat_lt, nat_le, arith, ltb-true, leb-true, eqb-true}
 use Rattle.std.specs.Prelude.{⊤, IsTrue, if◌then◌else◌, slice_index_or}
 use Rattle.std.specs.List.{list_all}
-use Rattle.std.proofs.lemmas.Bool.{and_parts, ltb-false, lt-ltb}
+use Rattle.std.proofs.lemmas.Bool.{and_parts}
 use Rattle.std.proofs.lemmas.Nat.{pow_pos}
 use Rattle.std.proofs.lemmas.Grind.{pow_more}
-use Rattle.pm_bits.specs.Word.{Word, IsWord, truth_of}
+use Rattle.pm_bits.specs.Word.{Word, truth_of}
 use Rattle.pm_bits.specs.declared.operator.Fold.{Fold}
 use Rattle.pm_bits.specs.declared.operator.Fold.TheVariants as folding
 use Rattle.pm_bits.specs.declared.operator.Op.{Op}
@@ -13,14 +13,14 @@ use Rattle.pm_bits.specs.declared.operator.Op.TheVariants as operator
 use Rattle.pm_bits.specs.Operator.{result_of, folding_of}
 use Rattle.pm_bits.specs.Parts.{concatenation_of}
 use Rattle.pm_bits.proofs.OnWords.{result_is_word, folding_is_word, complement_is_word, slice_is_word, concatenation_is_word, zero_extension_is_word, sign_extension_is_word, truncation_is_word}
-use Rattle.pm_design.specs.declared.body.Ex.{Ex, Ex-F, fold-Ex, fold-roll-Ex}
+use Rattle.pm_design.specs.declared.body.Ex.{Ex, Ex-F, fold-roll-Ex}
 use Rattle.pm_design.specs.declared.body.Ex.TheFolds.{ind-Ex, map-Ex}
 use Rattle.pm_design.specs.declared.connection.Callee.{Callee}
 use Rattle.pm_design.specs.declared.connection.Part.{Part}
-use Rattle.pm_design.specs.Typing.{Holding, Sight, Typing, are_elements, element_width, is_deque, is_number, result_width, state_of, typed, typing, typing_step}
+use Rattle.pm_design.specs.Typing.{Holding, Sight, Typing, are_elements, element_width, result_width, state_of, typed, typing, typing_step}
 use Rattle.pm_design.specs.Widths.{total, is_width, log_of}
-use Rattle.pm_block.specs.Places.{Valuation, Items, number_at, word_at}
-use Rattle.pm_block.specs.Value.{Frame, Temporaries, concatenated, count_of, item_of, joined, no_part, part_word, picked_word, places_of, value, value_step, zero_word}
+use Rattle.pm_block.specs.Places.{Valuation, Items, number_at}
+use Rattle.pm_block.specs.Value.{Frame, Temporaries, concatenated, count_of, joined, no_part, part_word, picked_word, places_of, value, value_step, zero_word}
 use Rattle.pm_block.specs.ValueLaws.{HasWidth, IsExpected, ValueFits}
 use Rattle.pm_block.proofs.Elements.{element_passes}
 

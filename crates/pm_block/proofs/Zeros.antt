@@ -1,11 +1,10 @@
 -- Values at first.
 use std.Path.{fun_ext}
-use Rattle.std.proofs.Common.{◌≡◌, ◌∙◌, ◌+◌, ◌<◌, ◌==◌, ◌&&◌, ℕ, zero, suc, Bool, true, false, List, [], ◌∷◌, ◌++◌, length, drop, replicate, map, nat_lt, arith, ap, refl, sym, subst, ltb-true}
+use Rattle.std.proofs.Common.{◌≡◌, ◌∙◌, ◌+◌, ◌<◌, ◌==◌, ℕ, zero, suc, Bool, true, false, List, [], ◌∷◌, ◌++◌, length, drop, replicate, map, nat_lt, ap, refl, sym, ltb-true}
 use Rattle.std.specs.Prelude.{IsTrue, if◌then◌else◌, slice_index_or}
 use Rattle.std.specs.List.{list_all}
 use Rattle.std.proofs.lemmas.Bool.{and_from}
 use Rattle.std.proofs.lemmas.List.{append_assoc}
-use Rattle.pm_bits.specs.Word.{Word}
 use Rattle.pm_design.specs.declared.design.Design.{Design}
 use Rattle.pm_design.specs.declared.design.State.{State}
 use Rattle.pm_design.specs.declared.plan.Instance.{Instance}
@@ -13,7 +12,7 @@ use Rattle.pm_design.specs.declared.plan.Plan.{Plan}
 use Rattle.pm_design.specs.Lookups.{kind_of}
 use Rattle.pm_design.specs.Runnable.{IsRunnable}
 use Rattle.pm_block.specs.First.{held_at_first, held_first, no_values}
-use Rattle.pm_block.specs.Places.{Held, Valuation, is_tidy}
+use Rattle.pm_block.specs.Places.{Held, is_tidy}
 use Rattle.pm_block.specs.Stored.{at_of}
 use Rattle.pm_block.specs.Value.{zero_word}
 use Rattle.pm_block.proofs.Elements.{element_passes}

@@ -1,12 +1,12 @@
 -- The naming of a plan: each bit of a component is the net of its flat bit.
-use Rattle.std.specs.Prelude.{ℕ, ◌+◌, Bool, false, List, [], ◌∷◌, map, slice_index_or}
+use Rattle.std.specs.Prelude.{ℕ, ◌+◌, false, List, [], map, slice_index_or}
 use Rattle.pm_bits.specs.Word.{Word}
 use Rattle.pm_design.specs.declared.plan.Plan.{Plan}
 use Rattle.pm_design.specs.Calls.{leads_to, methods_of}
 use Rattle.pm_design.specs.Layout.{Layout, is_part, is_put, net_from, layout_of, instance_of, scope_of, first_bit_of, flat_part}
 use Rattle.pm_design.specs.Lookups.{kind_of, no_signature}
 use Rattle.pm_design.specs.Sound.{holdings_of}
-use Rattle.pm_design.specs.Typing.{Holding, Sight}
+use Rattle.pm_design.specs.Typing.{Sight}
 use Rattle.pm_block.specs.Run.{Scene, scene_in}
 use Rattle.pm_block.specs.Value.{Names, Frame, World}
 

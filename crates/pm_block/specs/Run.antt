@@ -9,7 +9,7 @@ use Rattle.pm_design.specs.declared.body.St.{St, St-F, fold-St}
 use Rattle.pm_design.specs.declared.connection.Callee.{Callee}
 use Rattle.pm_design.specs.declared.connection.Part.{Part}
 use Rattle.pm_block.specs.Places.{Valuation, Items, put_at}
-use Rattle.pm_block.specs.Value.{Names, Frame, World, Temporaries, zero_word, no_part, places_of, item_of, count_of, value, ready_to}
+use Rattle.pm_block.specs.Value.{Names, Frame, World, Temporaries, zero_word, no_part, places_of, item_of, value, ready_to}
 
 -- the values of places, states and temporaries, and what the assignments that wait for the end will do
 pub record State : Type 0 where

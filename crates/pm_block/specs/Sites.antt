@@ -1,10 +1,9 @@
 -- What the names of a body mean where it runs.
-use Rattle.std.specs.Prelude.{ℕ, Bool, List}
+use Rattle.std.specs.Prelude.{List}
 use Rattle.pm_bits.specs.Word.{Word}
 use Rattle.pm_design.specs.declared.body.Ex.{Ex}
-use Rattle.pm_design.specs.declared.body.St.{St}
 use Rattle.pm_design.specs.Layout.{Layout}
-use Rattle.pm_design.specs.Nodes.{Inside, inside_of, nodes, statement_nodes, body_nodes}
+use Rattle.pm_design.specs.Nodes.{Inside, inside_of}
 use Rattle.pm_design.specs.Typing.{Sight}
 use Rattle.pm_block.specs.declared.site.Site.{Site}
 use Rattle.pm_block.specs.Places.{Valuation, Held, items_of}

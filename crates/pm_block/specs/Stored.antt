@@ -1,5 +1,5 @@
 -- The values of places as they are stored.
-use Rattle.std.specs.Prelude.{ℕ, Bool, false, List, slice_index_or, if◌then◌else◌}
+use Rattle.std.specs.Prelude.{Bool, false, List, slice_index_or, if◌then◌else◌}
 use Rattle.pm_design.specs.Layout.{Layout}
 use Rattle.pm_block.specs.Places.{Held, Valuation}
 

@@ -4,7 +4,7 @@ use Rattle.pm_bits.specs.Word.{Word, IsWord}
 use Rattle.pm_design.specs.declared.body.Ex.{Ex}
 use Rattle.pm_design.specs.declared.connection.Callee.{Callee}
 use Rattle.pm_design.specs.declared.connection.Part.{Part}
-use Rattle.pm_design.specs.Typing.{Sight, is_deque, is_number, state_of, typing}
+use Rattle.pm_design.specs.Typing.{Sight, is_deque, state_of, typing}
 use Rattle.pm_design.specs.Widths.{is_width, log_of}
 use Rattle.pm_block.specs.Places.{Valuation, Items}
 use Rattle.pm_block.specs.Value.{Frame, Temporaries, count_of, item_of, value}

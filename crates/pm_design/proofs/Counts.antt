@@ -1,7 +1,5 @@
 -- The equations of `nodes` and `statement_nodes`, one for each form of expression and of statement.
-use Rattle.std.proofs.Common.{◌≡◌, ◌∙◌, ◌+◌, ◌*◌, ◌<◌, arith, ◌^◌, ◌==◌, ◌&&◌, ◌||◌, ℕ, zero, suc, List, [], ◌∷◌, map, refl, sym, ap, Bool, true, false, length, nat_lt, nat_le, Option, None, Some}
-use Rattle.std.specs.Prelude.{if◌then◌else◌, slice_index_or, bytes_eq}
-use Rattle.std.specs.List.{list_all}
+use Rattle.std.proofs.Common.{◌≡◌, ◌∙◌, ◌+◌, ◌<◌, arith, ℕ, List, map, sym, ap, length, Option}
 use Rattle.pm_bits.specs.Word.{Word}
 use Rattle.pm_bits.specs.declared.operator.Op.{Op}
 use Rattle.pm_bits.specs.declared.operator.Fold.{Fold}

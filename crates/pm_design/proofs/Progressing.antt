@@ -1,6 +1,5 @@
 -- The equations of `reads_assigned` and `progress`, one for each form of expression and of statement.
-use Rattle.std.proofs.Common.{◌≡◌, ◌∙◌, ◌+◌, ◌*◌, ◌^◌, ◌==◌, ◌&&◌, ◌||◌, ℕ, zero, suc, List, [], ◌∷◌, map, refl, sym, ap, Bool, true, false, length, nat_lt, nat_le, Option, None, Some}
-use Rattle.std.specs.Prelude.{if◌then◌else◌, slice_index_or, bytes_eq}
+use Rattle.std.proofs.Common.{◌≡◌, ◌∙◌, ◌&&◌, ℕ, List, map, sym, ap, Bool, true, Option, Some}
 use Rattle.std.specs.List.{list_all}
 use Rattle.pm_bits.specs.Word.{Word}
 use Rattle.pm_bits.specs.declared.operator.Op.{Op}
@@ -8,9 +7,9 @@ use Rattle.pm_bits.specs.declared.operator.Fold.{Fold}
 use Rattle.pm_design.specs.declared.body.Side.{Side}
 use Rattle.pm_design.specs.declared.connection.Callee.{Callee}
 use Rattle.pm_design.specs.declared.connection.Part.{Part}
-use Rattle.pm_design.specs.declared.body.Ex.{Ex, Ex-F, fold-Ex, fold-roll-Ex}
+use Rattle.pm_design.specs.declared.body.Ex.{Ex, Ex-F, fold-roll-Ex}
 use Rattle.pm_design.specs.declared.body.Ex.TheVariants as ex
-use Rattle.pm_design.specs.declared.body.St.{St, St-F, fold-St, fold-roll-St}
+use Rattle.pm_design.specs.declared.body.St.{St, St-F, fold-roll-St}
 use Rattle.pm_design.specs.declared.body.St.TheVariants as st
 use Rattle.pm_design.specs.Settings.{Progress, reads_assigned, reads_assigned_step, progress, progress_step, behind_reading, behind_setting, behind_either, in_turn}
 

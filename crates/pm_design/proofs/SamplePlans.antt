@@ -1,11 +1,11 @@
 -- The plan of the small design is runnable.
-use Rattle.std.proofs.Common.{◌≡◌, ◌<◌, ℕ, zero, suc, List, [], ◌∷◌, length, refl, arith, true}
+use Rattle.std.proofs.Common.{◌<◌, ℕ, zero, suc, length, refl, arith}
 use Rattle.std.specs.Prelude.{IsTrue}
 use Rattle.std.specs.List.{list_all}
 use Rattle.pm_design.specs.Layout.{is_other, are_apart}
 use Rattle.pm_design.specs.Runnable.{IsRunnable, fits_there, kind_at, ties_well}
 use Rattle.pm_design.specs.Sample.{sample_plan}
-use Rattle.pm_design.proofs.Samples.{instances_of_sample, sample_sound}
+use Rattle.pm_design.proofs.Samples.{sample_sound}
 use Rattle.pm_design.proofs.Soundness.{sound_set, sound_set_temp, sound_if}
 use Rattle.pm_design.proofs.Typings.{typing_const, typing_get, typing_temp, typing_bin}
 

@@ -1,16 +1,14 @@
 -- The small design is sound.
-use Rattle.std.proofs.Common.{◌≡◌, ◌<◌, ◌&&◌, ℕ, zero, suc, Bool, true, List, [], ◌∷◌, map, length, refl, ap, arith, codes}
-use Rattle.std.specs.Prelude.{IsTrue, slice_index_or}
-use Rattle.std.specs.List.{list_all, All}
+use Rattle.std.proofs.Common.{◌≡◌, ◌<◌, ℕ, zero, suc, [], ◌∷◌, length, refl, arith, codes}
+use Rattle.std.specs.Prelude.{slice_index_or}
 use Rattle.std.proofs.lemmas.List.Elements.{All-cons, All-nil}
 use Rattle.pm_syn.specs.Names.{is_keyword}
-use Rattle.pm_design.specs.Elaborated.{IsElaborated, IsElaboratedKind, IsWellNamed, IsWellSized}
+use Rattle.pm_design.specs.Elaborated.{IsElaboratedKind, IsWellNamed}
 use Rattle.pm_design.specs.Instances.{instances_of}
 use Rattle.pm_design.specs.Lookups.{no_kind}
 use Rattle.pm_design.specs.Names.{IsMemberName}
 use Rattle.pm_design.specs.Sample.{adder, keeper, sample, sample_instances}
-use Rattle.pm_design.specs.Settings.{progress, reads_assigned}
-use Rattle.pm_design.specs.Sound.{IsSound, is_sound_block}
+use Rattle.pm_design.specs.Sound.{IsSound}
 use Rattle.pm_design.proofs.Progressing.{reads_get, reads_const, reads_temp, reads_bin, progress_set, progress_set_temp, progress_if}
 use Rattle.pm_design.proofs.Soundness.{sound_set, sound_set_temp, sound_if}
 use Rattle.pm_design.proofs.Typings.{typing_const, typing_get, typing_temp, typing_bin}

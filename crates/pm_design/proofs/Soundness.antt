@@ -1,18 +1,13 @@
 -- The equations of `is_sound`, one for each form of statement.
-use Rattle.std.proofs.Common.{◌≡◌, ◌∙◌, ◌+◌, ◌*◌, ◌^◌, ◌==◌, ◌&&◌, ◌||◌, ℕ, zero, suc, List, [], ◌∷◌, map, refl, sym, ap, Bool, true, false, length, nat_lt, nat_le, Option, None, Some}
-use Rattle.std.specs.Prelude.{if◌then◌else◌, slice_index_or, bytes_eq}
+use Rattle.std.proofs.Common.{◌≡◌, ◌∙◌, ◌&&◌, ℕ, List, map, sym, ap, Bool, Option, Some}
 use Rattle.std.specs.List.{list_all}
-use Rattle.pm_bits.specs.Word.{Word}
-use Rattle.pm_bits.specs.declared.operator.Op.{Op}
-use Rattle.pm_bits.specs.declared.operator.Fold.{Fold}
 use Rattle.pm_design.specs.declared.body.Side.{Side}
 use Rattle.pm_design.specs.declared.connection.Callee.{Callee}
 use Rattle.pm_design.specs.declared.connection.Part.{Part}
-use Rattle.pm_design.specs.declared.body.Ex.{Ex, Ex-F, fold-Ex, fold-roll-Ex}
-use Rattle.pm_design.specs.declared.body.Ex.TheVariants as ex
-use Rattle.pm_design.specs.declared.body.St.{St, St-F, fold-St, fold-roll-St}
+use Rattle.pm_design.specs.declared.body.Ex.{Ex}
+use Rattle.pm_design.specs.declared.body.St.{St, St-F, fold-roll-St}
 use Rattle.pm_design.specs.declared.body.St.TheVariants as st
-use Rattle.pm_design.specs.Typing.{Sight, Typing, typing, is_sound, is_sound_step, has_width, have_widths, takes_answer, are_elements, state_of, is_number, is_deque, is_temp}
+use Rattle.pm_design.specs.Typing.{Sight, typing, is_sound, is_sound_step, has_width, have_widths, takes_answer, are_elements, state_of, is_number, is_deque, is_temp}
 
 pub sound_set : (s : Sight) (p : Part) (e : Ex) → is_sound s (st.Set p e) ≡ (s.writes p && has_width s p.width e)
 unfolding is_sound

@@ -1,5 +1,5 @@
 -- What elaboration gives: a design whose numbers, widths and names are as they must be, whatever its bodies are.
-use Rattle.std.specs.Prelude.{ℕ, zero, suc, ◌+◌, ◌^◌, ◌==◌, ◌<◌, ◌≤◌, ◌≡◌, ◌&&◌, ◌||◌, Bool, true, false, not, nat_lt, nat_le, IsTrue, List, [], ◌∷◌, ◌++◌, length, map, drop, slice_index_or, codes, bytes_eq, Option, None, Some}
+use Rattle.std.specs.Prelude.{ℕ, ◌+◌, ◌^◌, ◌==◌, ◌<◌, ◌≤◌, ◌≡◌, ◌&&◌, ◌||◌, Bool, true, not, nat_lt, nat_le, IsTrue, List, ◌++◌, length, map, drop, slice_index_or, codes, bytes_eq, Option, None, Some}
 use Rattle.std.specs.List.{list_all, All}
 use Rattle.std.specs.Option.{option_eq}
 use Rattle.std.specs.Prelude.{nat_eq}

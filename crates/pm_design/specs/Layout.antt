@@ -1,5 +1,5 @@
 -- Where signals are among the flat bits, and which net each flat bit is of.
-use Rattle.std.specs.Prelude.{ℕ, zero, suc, ◌+◌, ◌^◌, ◌==◌, ◌&&◌, Bool, true, not, nat_lt, nat_le, List, [], ◌∷◌, ◌++◌, length, map, slice_index_or, Option, None}
+use Rattle.std.specs.Prelude.{ℕ, zero, suc, ◌+◌, ◌^◌, ◌==◌, ◌&&◌, Bool, true, not, nat_lt, nat_le, List, [], ◌∷◌, ◌++◌, length, map, slice_index_or, None}
 use Rattle.std.specs.List.{list_any}
 use Rattle.pm_design.specs.declared.connection.Part.{Part}
 use Rattle.pm_design.specs.declared.design.Design.{Design}

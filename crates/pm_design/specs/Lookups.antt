@@ -1,5 +1,5 @@
 -- What the numbers of a design name.
-use Rattle.std.specs.Prelude.{ℕ, zero, suc, ◌+◌, ◌==◌, ◌&&◌, ◌||◌, Bool, true, false, not, nat_lt, nat_le, if◌then◌else◌, List, [], ◌∷◌, length, map, slice_index_or, Option, None, Some}
+use Rattle.std.specs.Prelude.{ℕ, zero, suc, ◌+◌, ◌==◌, ◌&&◌, ◌||◌, Bool, true, false, not, nat_lt, nat_le, if◌then◌else◌, List, [], ◌∷◌, length, slice_index_or, Option, None, Some}
 use Rattle.pm_design.specs.declared.body.Method.{Method}
 use Rattle.pm_design.specs.declared.connection.Callee.{Callee}
 use Rattle.pm_design.specs.declared.connection.Callee.TheVariants as callee

@@ -1,7 +1,6 @@
 -- How many nodes a body has: its statements, its expressions and the elements of its dynamic indexes.
-use Rattle.std.specs.Prelude.{ℕ, zero, suc, ◌+◌, List, [], ◌∷◌, map, length, Option, None, Some}
+use Rattle.std.specs.Prelude.{ℕ, zero, suc, ◌+◌, List, map, length, Option, None, Some}
 use Rattle.pm_design.specs.declared.body.Ex.{Ex, Ex-F, fold-Ex}
-use Rattle.pm_design.specs.declared.body.Method.{Method}
 use Rattle.pm_design.specs.declared.body.St.{St, St-F, fold-St}
 use Rattle.pm_design.specs.declared.connection.Callee.{Callee}
 use Rattle.pm_design.specs.declared.plan.Plan.{Plan}

@@ -1,9 +1,8 @@
 -- A runnable plan: a sound design laid out, so that its bodies can run.
-use Rattle.std.specs.Prelude.{ℕ, zero, suc, ◌+◌, ◌^◌, ◌≡◌, ◌≤◌, ◌<◌, ◌==◌, ◌&&◌, Bool, true, false, not, nat_lt, nat_le, IsTrue, if◌then◌else◌, List, [], ◌∷◌, ◌++◌, length, map, slice_index_or, Option, None, Some}
-use Rattle.std.specs.List.{list_all, All}
+use Rattle.std.specs.Prelude.{ℕ, zero, suc, ◌+◌, ◌^◌, ◌≡◌, ◌≤◌, ◌<◌, ◌==◌, ◌&&◌, Bool, true, false, not, nat_lt, nat_le, IsTrue, if◌then◌else◌, List, [], ◌∷◌, ◌++◌, length, slice_index_or, Option, None, Some}
+use Rattle.std.specs.List.{list_all}
 use Rattle.pm_bits.specs.Word.{Word}
 use Rattle.pm_design.specs.declared.body.Block.{Block}
-use Rattle.pm_design.specs.declared.body.BlockSort.{BlockSort}
 use Rattle.pm_design.specs.declared.body.BlockSort.TheVariants as sort
 use Rattle.pm_design.specs.declared.connection.Tie.{Tie}
 use Rattle.pm_design.specs.declared.design.Kind.{Kind}

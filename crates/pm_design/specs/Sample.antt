@@ -1,5 +1,5 @@
 -- A small sound design: a component adds 1 to its input, and its parent keeps the sum in a register.
-use Rattle.std.specs.Prelude.{ℕ, true, List, [], ◌∷◌, codes, Option, None, Some}
+use Rattle.std.specs.Prelude.{ℕ, true, List, [], ◌∷◌, codes, None, Some}
 use Rattle.pm_bits.specs.declared.operator.Op.TheVariants as operator
 use Rattle.pm_design.specs.declared.body.Block.{Block}
 use Rattle.pm_design.specs.declared.body.BlockSort.TheVariants as sort

@@ -1,5 +1,5 @@
 -- A sound design: what elaboration gives, with sound bodies.
-use Rattle.std.specs.Prelude.{ℕ, ◌==◌, ◌&&◌, Bool, true, false, nat_le, IsTrue, bytes_eq, List, [], ◌∷◌, map, take, length, Option, None, Some}
+use Rattle.std.specs.Prelude.{ℕ, ◌&&◌, Bool, true, false, IsTrue, bytes_eq, List, [], map, take, length, Option, None, Some}
 use Rattle.std.specs.List.{list_all}
 use Rattle.pm_design.specs.declared.body.Block.{Block}
 use Rattle.pm_design.specs.declared.body.BlockSort.{BlockSort}
@@ -9,7 +9,6 @@ use Rattle.pm_design.specs.declared.body.Method.{Method}
 use Rattle.pm_design.specs.declared.connection.Part.{Part}
 use Rattle.pm_design.specs.declared.design.Design.{Design}
 use Rattle.pm_design.specs.declared.design.Kind.{Kind}
-use Rattle.pm_design.specs.declared.design.State.{State}
 use Rattle.pm_design.specs.Elaborated.{IsElaborated}
 use Rattle.pm_design.specs.Lookups.{is_readable, is_writable, is_whole, signature_of}
 use Rattle.pm_design.specs.Settings.{Progress, progress_of, reads_assigned}

@@ -1,8 +1,6 @@
 -- Which expressions and statements are sound, and how wide values are.
-use Rattle.std.specs.Prelude.{ℕ, ◌+◌, ◌^◌, ◌==◌, ◌&&◌, Bool, true, false, nat_lt, nat_le, nat_eq, bytes_eq, List, [], ◌∷◌, map, length, slice_index_or, Option, None, Some}
+use Rattle.std.specs.Prelude.{ℕ, ◌+◌, ◌^◌, ◌==◌, ◌&&◌, Bool, true, false, nat_lt, nat_le, bytes_eq, List, [], ◌∷◌, map, length, slice_index_or, Option, None, Some}
 use Rattle.std.specs.List.{list_all}
-use Rattle.std.specs.Option.{option_eq}
-use Rattle.pm_bits.specs.Word.{Word}
 use Rattle.pm_bits.specs.declared.operator.Op.{Op}
 use Rattle.pm_bits.specs.declared.operator.Op.TheVariants as operator
 use Rattle.pm_design.specs.declared.body.Ex.{Ex, Ex-F, fold-Ex}

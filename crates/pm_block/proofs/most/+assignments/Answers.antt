@@ -1,4 +1,4 @@
-use Rattle.std.proofs.Common.{◌≡◌, ◌+◌, ◌*◌, ◌<◌, ◌≤◌, ◌∷◌, List, ap, arith, drop}
+use Rattle.std.proofs.Common.{◌≡◌, ◌+◌, ◌*◌, ◌<◌, ◌∷◌, ap, arith, drop}
 use Rattle.pm_design.specs.Nodes.{body_nodes, statement_nodes}
 use Rattle.pm_block.proofs.Bodies.{drop_one}
 use Rattle.pm_block.proofs.Mosts.{no_inside}

@@ -1,5 +1,5 @@
-use Rattle.std.proofs.Common.{◌≡◌, ◌∙◌, ◌+◌, ◌*◌, ◌<◌, ◌≤◌, ◌^◌, ℕ, List, ◌∷◌, ap, refl, sym, subst, arith, drop, length, map}
-use Rattle.std.specs.Prelude.{IsTrue, slice_index_or, ◌==◌, false, true}
+use Rattle.std.proofs.Common.{◌≡◌, ◌∙◌, ◌+◌, ◌*◌, ◌<◌, ◌≤◌, ◌^◌, List, ◌∷◌, ap, refl, sym, subst, arith, drop, length}
+use Rattle.std.specs.Prelude.{IsTrue, ◌==◌, false, true}
 use Rattle.std.proofs.lemmas.Bool.Decides.{nat_tests}
 use Rattle.pm_design.specs.declared.body.St.{St}
 use Rattle.pm_design.specs.declared.connection.Part.{Part}

@@ -1,4 +1,4 @@
-use Rattle.std.proofs.Common.{◌≡◌, ◌+◌, ◌*◌, ◌<◌, ◌≤◌, length, map, drop}
+use Rattle.std.proofs.Common.{◌≡◌, ◌+◌, ◌*◌, ◌<◌, ◌≤◌, length, drop}
 use Rattle.std.specs.Prelude.{IsTrue, true, false}
 use Rattle.std.specs.List.{list_all}
 use Rattle.pm_design.specs.Nodes.{body_nodes, statement_nodes}

@@ -1,4 +1,4 @@
-use Rattle.std.proofs.Common.{◌≡◌, ◌<◌, length, arith}
+use Rattle.std.proofs.Common.{◌<◌, length, arith}
 use Rattle.pm_block.specs.Places.{items_of}
 use Rattle.pm_block.specs.Sites.{scene_here}
 use Rattle.pm_block.specs.Value.{Temporaries}

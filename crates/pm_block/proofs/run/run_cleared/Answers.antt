@@ -1,7 +1,7 @@
-use Rattle.std.proofs.Common.{◌≡◌, ◌∙◌, List, ap, ap₂}
+use Rattle.std.proofs.Common.{◌∙◌, List, ap, ap₂}
 use Rattle.pm_bits.specs.Word.{Word}
 use Rattle.pm_block.specs.declared.waiting.Write.{Write}
-use Rattle.pm_block.specs.Places.{items_of, Held}
+use Rattle.pm_block.specs.Places.{items_of}
 use Rattle.pm_block.specs.Plans.{widths_of}
 use Rattle.pm_block.specs.Run.{State}
 use Rattle.pm_block.specs.Sites.{memory_of, scene_here, state_here}

@@ -1,4 +1,4 @@
-use Rattle.std.proofs.Common.{◌≡◌, ◌++◌, ◌∷◌, map, take, drop}
+use Rattle.std.proofs.Common.{◌≡◌, ◌++◌, ◌∷◌, map, drop}
 use Rattle.pm_design.specs.Instances.{first_bits_of}
 use Rattle.pm_design.specs.Layout.{instance_of}
 use Rattle.pm_block.proofs.tables.scope.Given as goal

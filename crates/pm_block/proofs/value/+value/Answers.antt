@@ -1,4 +1,4 @@
-use Rattle.std.proofs.Common.{◌≡◌, ◌∙◌, ◌+◌, ◌*◌, ◌<◌, ◌≤◌, ◌^◌, ℕ, List, IsTrue, sym, ap, arith, map, length}
+use Rattle.std.proofs.Common.{◌∙◌, ◌+◌, ◌*◌, ◌<◌, ◌≤◌, ◌^◌, List, sym, ap, arith, map}
 use Rattle.pm_bits.specs.Word.{Word}
 use Rattle.pm_design.specs.declared.body.Ex.{Ex}
 use Rattle.pm_design.specs.Nodes.{nodes}
