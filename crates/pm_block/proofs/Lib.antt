@@ -7,6 +7,7 @@ pub mod Tabled
 pub mod Firsts
 pub mod Zeros
 pub mod ValuesFit
+pub mod RunsMean
 pub mod Mosts
 pub mod Concatenations
 pub mod Elements

@@ -9,3 +9,4 @@ pub mod Assignments
 pub mod Tables
 pub mod First
 pub mod ValueLaws
+pub mod RunLaws
