@@ -1,17 +1,17 @@
 -- What single expressions and statements do, in plainer terms.
-use Rattle.std.proofs.Common.{◌≡◌, ◌≢◌, ◌∙◌, ◌+◌, ◌*◌, ◌/◌, ◌%◌, ◌^◌, ◌<◌, ◌≤◌, ◌==◌, ◌&&◌, ℕ, zero, suc, List, refl, sym, ap, ap₂, subst, Bool, true, false, not, length, nat_lt, arith, eqb-true, true≢false}
+use Rattle.std.proofs.Common.{◌≡◌, ◌≢◌, ◌∙◌, ◌+◌, ◌*◌, ◌/◌, ◌%◌, ◌^◌, ◌<◌, ◌≤◌, ◌==◌, ◌&&◌, ℕ, zero, suc, List, refl, sym, ap, ap₂, subst, Bool, true, false, not, length, nat_lt, arith, eqb-true, ltb-true, true≢false}
 use Rattle.std.specs.Prelude.{IsTrue, if◌then◌else◌, slice_index_or}
-use Rattle.std.proofs.lemmas.Bool.{and_parts, eqb-false, le-ltb}
+use Rattle.std.proofs.lemmas.Bool.{and_parts, eqb-false, le-ltb, ltb-false}
 use Rattle.std.proofs.lemmas.Nat.{mod-pow-add}
 use Rattle.std.proofs.Math.Nat.{mod-eq_of_lt}
 use Rattle.pm_bits.specs.Word.{Word, IsWord, bit_of}
-use Rattle.pm_design.specs.declared.connection.Part.{Part}
+use Rattle.pm_design.specs.declared.body.St.TheVariants as st
 use Rattle.pm_design.specs.Layout.{are_apart, is_other}
 use Rattle.pm_design.specs.Typing.{element_width}
 use Rattle.pm_block.specs.Places.{Valuation, number_at, put, put_at, word_at}
-use Rattle.pm_block.specs.Run.{State, assigned, put_part, value_in}
-use Rattle.pm_block.specs.RunLaws.{AssignmentsWait, OthersStay, PastTheEndReadsZero, PastTheEndWritesNothing, PutIsRead}
-use Rattle.pm_block.specs.Value.{no_part, part_word, value, zero_word}
+use Rattle.pm_block.specs.Run.{State, assigned, put_part, run, value_in}
+use Rattle.pm_block.specs.RunLaws.{LastAssignmentCounts, AssignmentsWait, OthersStay, PastTheEndReadsZero, PastTheEndWritesNothing, PutIsRead}
+use Rattle.pm_block.specs.Value.{no_part, part_word, places_of, value, zero_word}
 use Rattle.pm_block.proofs.Equations.{value_pick}
 use Rattle.pm_block.proofs.Statements.{run_set, run_set_pick}
 
@@ -91,3 +91,35 @@ put_is_read place n w v apart word wide =
     let whole : w.value % 2 ^ n ≡ w.value = mod-eq_of_lt fits in
     let with : ℕ → ℕ → Word = λ a b. record { width = a; value = b } in
     ap₂ with (sym wide) (number ∙ whole)
+
+not_before : (place : ℕ → ℕ) (q n : ℕ) → (q == place n) ≡ false → (i : ℕ) → i < suc n → place i ≡ q → ((j : ℕ) → j < n → place j ≢ q) → ⊥
+not_before place q n e i lt same below = by (nat_lt i n) refl
+  where
+    by : (b : Bool) → nat_lt i n ≡ b → ⊥
+    by true t = below i (ltb-true i n t) same
+    by false t =
+        let le : n ≤ i = ltb-false i n t in
+        let last : i ≡ n = omega (arith, lt, le) in
+        eqb-false q (place n) e (sym same ∙ ap place last)
+
+put_agrees : (place : ℕ → ℕ) (n : ℕ) (w : Word) (u v : Valuation) (q : ℕ) → (((i : ℕ) → i < n → place i ≢ q) → u q ≡ v q) → put_at place n w u q ≡ put_at place n w v q
+unfolding put_at
+put_agrees place zero w u v q elsewhere = elsewhere (λ i lt. absurd (omega (arith, lt)))
+put_agrees place (suc n) w u v q elsewhere =
+    by (q == place n) refl (λ e. put_agrees place n w u v q (λ below. elsewhere (λ i lt same. not_before place q n e i lt same below)))
+  where
+    by : (b : Bool) → (q == place n) ≡ b → ((q == place n) ≡ false → put_at place n w u q ≡ put_at place n w v q) → (if b then bit_of w n else put_at place n w u q) ≡ (if b then bit_of w n else put_at place n w v q)
+    by true e below = refl
+    by false e below = below e
+
+-- at the clock edge the last of two assignments of a part counts
+pub last_assignment_counts : LastAssignmentCounts
+last_assignment_counts scene p d e s v q =
+    let first : State = assigned true (put_part scene.frame.names p (value_in scene s d)) s in
+    let places : ℕ → ℕ = places_of scene.frame.names p in
+    let later : State → ℕ = λ t. t.later v q in
+    let word : Word = value_in scene s e in
+    let waits : Valuation = s.later v in
+    ap later (ap (run true scene (st.Set p e)) (run_set true scene p d s) ∙ run_set true scene p e first)
+    ∙ (put_agrees places p.width word (put_at places p.width (value_in scene s d) waits) waits q (others_stay places p.width (value_in scene s d) waits q)
+    ∙ ap later (sym (run_set true scene p e s)))

@@ -1,5 +1,5 @@
 -- What single expressions and statements do, in plainer terms.
-use Rattle.std.specs.Prelude.{◌≡◌, ◌≢◌, ℕ, ◌<◌, ◌≤◌, Bool, true, false, IsTrue, List, length}
+use Rattle.std.specs.Prelude.{◌≡◌, ◌≢◌, ℕ, ◌<◌, ◌≤◌, Bool, true, false, IsTrue, List, [], ◌∷◌, length}
 use Rattle.pm_bits.specs.Word.{Word, IsWord}
 use Rattle.pm_design.specs.declared.body.Ex.{Ex}
 use Rattle.pm_design.specs.declared.body.Ex.TheVariants as ex
@@ -10,7 +10,7 @@ use Rattle.pm_design.specs.declared.connection.Part.{Part}
 use Rattle.pm_design.specs.Layout.{are_apart}
 use Rattle.pm_design.specs.Typing.{element_width}
 use Rattle.pm_block.specs.Places.{Valuation, Items, put_at, word_at}
-use Rattle.pm_block.specs.Run.{Scene, State, run, value_in}
+use Rattle.pm_block.specs.Run.{Scene, State, run, run_body, value_in}
 use Rattle.pm_block.specs.Value.{Frame, Temporaries, value, zero_word}
 
 -- an index past the end reads 0
@@ -41,3 +41,9 @@ abbrev pub OthersStay : Type 0
 OthersStay =
     (place : ℕ → ℕ) (n : ℕ) (w : Word) (v : Valuation) (q : ℕ)
     → ((i : ℕ) → i < n → place i ≢ q) → put_at place n w v q ≡ v q
+
+-- at the clock edge the last of two assignments of a part counts
+abbrev pub LastAssignmentCounts : Type 0
+LastAssignmentCounts =
+    (scene : Scene) (p : Part) (d e : Ex) (s : State) (v : Valuation) (q : ℕ)
+    → (run_body true scene (st.Set p d ∷ st.Set p e ∷ []) s).later v q ≡ (run true scene (st.Set p e) s).later v q

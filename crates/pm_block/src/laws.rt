@@ -1,5 +1,5 @@
 //! Laws of values and runs. No code calls these functions: each one proves its law.
-ghost use Rattle.pm_block.specs.RunLaws.{AssignmentsWait, OthersStay, PastTheEndReadsZero, PastTheEndWritesNothing, PutIsRead};
+ghost use Rattle.pm_block.specs.RunLaws.{AssignmentsWait, LastAssignmentCounts, OthersStay, PastTheEndReadsZero, PastTheEndWritesNothing, PutIsRead};
 ghost use Rattle.pm_block.specs.ValueLaws.{ValueFits};
 
 /// The value of a sound expression fits its width.
@@ -26,4 +26,10 @@ pub fn assignments_wait_for_the_end()
 pub fn a_word_that_is_put_is_read_again()
     ensures same { PutIsRead }
     ensures others { OthersStay }
+{}
+
+/// At the clock edge the last of two assignments of a part counts.
+#[tactic(auto, using(crate::proofs::RunsMean::last_assignment_counts))]
+pub fn the_last_assignment_counts()
+    ensures { LastAssignmentCounts }
 {}
