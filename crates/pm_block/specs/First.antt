@@ -38,7 +38,7 @@ abbrev pub tied_in : List (List ℕ) → Layout → List Tie → Valuation → V
 tied_in scope layout [] v = v
 tied_in scope layout (t ∷ ts) v = tied_in scope layout ts (put_tied scope layout t t.value v)
 
--- the constants of the ties of instances, of which the first has the given number, put into their bits
+-- the constants of the ties of instances, from one with the given number on, put into their bits
 abbrev pub tied_from : Plan → ℕ → List Instance → Valuation → Valuation
 tied_from plan i [] v = v
 tied_from plan i (x ∷ xs) v =

@@ -11,7 +11,7 @@ use Rattle.pm_design.specs.declared.connection.Part.{Part}
 use Rattle.pm_block.specs.Places.{Valuation, Items, put_at}
 use Rattle.pm_block.specs.Value.{Names, Frame, World, Temporaries, zero_word, no_part, places_of, item_of, value, ready_to}
 
--- the values of places, states and temporaries, and what the assignments that wait for the end will do
+-- the values of places, states and temporaries, and what the assignments that wait will do
 pub record State : Type 0 where
   pub places : Valuation
   pub items : Items
@@ -131,7 +131,7 @@ abbrev pub answer_in : Scene → State → Option Ex → Word
 answer_in scene s None = zero_word 0
 answer_in scene s (Some e) = value_in scene s e
 
--- the method that an instance's callee leads to, put in its place, with calls within calls through so many levels
+-- the method that a callee leads to, put in its place, with calls within calls through so many levels
 abbrev pub call_to : ℕ → World → ℕ → Callee → List Word → State → Returned
 call_to zero world i m args s = record { state = s; answer = zero_word 0 }
 call_to (suc levels) world i m args s =
@@ -157,7 +157,7 @@ pub record Memory : Type 0 where
   pub places : Valuation
   pub items : Items
 
--- the values behind a block: its temporaries start at 0, and what waits takes effect in turn at its end
+-- the values behind a block: temporaries start at 0, and what waits takes effect in turn at the end
 abbrev pub run_block : Bool → Scene → List St → List ℕ → Memory → Memory
 run_block clocked scene body widths m =
     let first : State = record {

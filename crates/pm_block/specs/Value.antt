@@ -90,7 +90,7 @@ value_step ready frame v items temps (Ex-F.Cond c a b) = if c.value == 0 then b 
 unfoldable pub value : (Callee → Word) → Frame → Valuation → Items → Temporaries → Ex → Word
 value ready frame v items temps = fold-Ex Word (value_step ready frame v items temps)
 
--- the frames of all instances, what their calls lead to, and how many calls a chain of them may have
+-- the frames of all instances, what their calls lead to, and how long a chain of calls may be
 pub record World : Type 0 where
   pub frames : ℕ → Frame
   pub leads : ℕ → Callee → Target
@@ -105,7 +105,7 @@ abbrev pub guard_word : (Ex → Word) → Option Ex → Word
 guard_word value_in None = record { width = 1; value = 1 }
 guard_word value_in (Some e) = value_in e
 
--- whether what an instance's callee leads to is ready, with guards within guards through so many levels
+-- whether what a callee leads to is ready, with guards within guards through so many levels
 abbrev pub ready_to : ℕ → World → ℕ → Valuation → Items → Callee → Word
 ready_to zero world i v items m = zero_word 1
 ready_to (suc levels) world i v items m =

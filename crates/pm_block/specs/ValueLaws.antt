@@ -14,7 +14,7 @@ pub record HasWidth (w : Word) (width : ℕ) : Type 0 where
   pub word : IsWord w
   pub wide : w.width ≡ width
 
--- nets are 0 or 1, and temporaries, items, counts and guards are words of the widths that a body expects
+-- nets are 0 or 1; temporaries, items, counts and guards have the widths that a body expects
 pub record IsExpected (s : Sight) (ready : Callee → Word) (frame : Frame) (v : Valuation) (items : Items) (temps : Temporaries) : Type 0 where
   pub bits : (net : ℕ) → v net ≤ 1
   pub parts : (p : Part) → IsTrue (s.reads p) → IsTrue (is_width p.width)

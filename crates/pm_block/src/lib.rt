@@ -1,4 +1,12 @@
-//! The run of a body.
+//! The run of a body: what one update block of a plan does to the values of its places.
+//!
+//! [`run_body`] runs a block once, on anything that implements [`Places`], such as [`Values`], the values of all nets and
+//! states of a plan. Its contract gives the values that it leaves by one definition over functions, which takes the naming
+//! of bits as a parameter. [`Temps`] is the room for temporaries and for assignments that wait for the end of a block, made
+//! once; a run takes no memory. [`Steps`] counts the steps, at most one for each node of the body.
+//!
+//! A caller that runs several blocks at one clock edge uses the parts: [`run_all`] for each body, and then [`settle`] once.
+//! The laws in [`laws`] say what the definitions mean. Bodies with states or methods aren't run yet.
 #![tactic(auto)]
 
 mod block_run;

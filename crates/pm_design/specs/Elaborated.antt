@@ -1,4 +1,4 @@
--- What elaboration gives: a design whose numbers, widths and names are as they must be, whatever its bodies are.
+-- What elaboration gives: a design whose numbers, widths and names are as they must be.
 use Rattle.std.specs.Prelude.{ℕ, ◌+◌, ◌^◌, ◌==◌, ◌<◌, ◌≤◌, ◌≡◌, ◌&&◌, ◌||◌, Bool, true, not, nat_lt, nat_le, IsTrue, List, ◌++◌, length, map, drop, slice_index_or, codes, bytes_eq, Option, None, Some}
 use Rattle.std.specs.List.{list_all, All}
 use Rattle.std.specs.Option.{option_eq}
@@ -39,7 +39,7 @@ is_good_shape design shape =
 abbrev pub is_good_signal : Design → Signal → Bool
 is_good_signal design signal = is_width signal.width && is_shape_or_none design signal.shape
 
--- a state of a good width: a deque of at most 64 items, or a number that starts at a number of its width
+-- a state of a good width: a deque of at most 64 items, or a number whose start has its width
 abbrev pub is_good_state : State → Bool
 is_good_state state =
     is_width state.width && (nat_le state.maxlen 64 && (nat_lt 0 state.maxlen || state.start.width == state.width))
@@ -61,7 +61,7 @@ is_good_join design kind join =
 abbrev pub are_alike : Signature → Signature → Bool
 are_alike a b = bytes_eq a.arguments b.arguments && option_eq nat_eq a.answer b.answer
 
--- a connection of two caller ports or methods that are there, of the same widths if of the same types
+-- a connection of two ports or methods that are there, of the same widths if of the same types
 abbrev pub is_good_bind : Design → Kind → Bind → Bool
 is_good_bind design kind bind =
     let a = signature_of design kind bind.a in

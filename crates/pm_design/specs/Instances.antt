@@ -59,7 +59,7 @@ instances_at (suc levels) design parent path at k =
     (λ here c. instances_at levels design (Some at.instance) (path ++ codes "." ++ c.name) here c.kind)
     (behind_one kind at) kind.children
 
--- the instances of a design: as each child's kind stands before its parent's, there are no more levels than kinds
+-- the instances of a design; it has no more levels than kinds, as each child's kind is before its parent's
 abbrev pub instances_of : Design → List Instance
 instances_of design =
     instances_at (length design.kinds) design None (codes "s") (record { instance = 0; bit = 0; state = 0 }) design.top

@@ -73,7 +73,7 @@ no_instance plan = record {
 abbrev pub instance_of : Plan → ℕ → Instance
 instance_of plan i = slice_index_or plan.instances i (no_instance plan)
 
--- the first flat bits of the signals that an instance's parts name: its own, then those of each child
+-- the first flat bits of the signals that an instance's parts name: its own, then each child's
 abbrev pub scope_of : Plan → ℕ → List (List ℕ)
 scope_of plan i =
     map (λ owner. first_bits_of plan.design (instance_of plan owner)) (i ∷ (instance_of plan i).children)

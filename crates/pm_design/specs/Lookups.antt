@@ -85,7 +85,7 @@ is_writable design kind part =
     let to_input = is_input (signal_of design kind part).role in
     lies_within design kind part && (if part.owner == 0 then not to_input else to_input)
 
--- how a method is called, if there is one: the widths of its arguments, and of its answer if it gives one
+-- how a method is called, if there is one: the widths of its arguments and of its answer, if any
 pub record Signature : Type 0 where
   pub there : Bool
   pub arguments : List ℕ

@@ -1,4 +1,4 @@
--- How many nodes a body has: its statements, its expressions and the elements of its dynamic indexes.
+-- How many nodes a body has: its statements, expressions and elements of dynamic indexes.
 use Rattle.std.specs.Prelude.{ℕ, zero, suc, ◌+◌, List, map, length, Option, None, Some}
 use Rattle.pm_design.specs.declared.body.Ex.{Ex, Ex-F, fold-Ex}
 use Rattle.pm_design.specs.declared.body.St.{St, St-F, fold-St}
@@ -7,7 +7,7 @@ use Rattle.pm_design.specs.declared.plan.Plan.{Plan}
 use Rattle.pm_design.specs.Calls.{leads_to, methods_of}
 use Rattle.pm_design.specs.Widths.{total}
 
--- the nodes of an expression, once its operands have theirs, and with those of the guards that it asks
+-- the nodes of an expression, once its operands have theirs, with those of its guards
 abbrev pub nodes_step : (Callee → ℕ) → Ex-F ℕ → ℕ
 nodes_step guard (Ex-F.Const c) = 1
 nodes_step guard (Ex-F.Get p) = 1

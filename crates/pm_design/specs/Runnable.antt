@@ -32,13 +32,13 @@ block_at plan flat = slice_index_or (kind_at plan flat.instance).blocks flat.blo
 abbrev pub is_there : Plan → Flat → Bool
 is_there plan flat = nat_lt flat.instance (length plan.instances) && nat_lt flat.block (length (kind_at plan flat.instance).blocks)
 
--- the numbers of the signals behind `reset` that pass a test, of which the first has the given number
+-- the numbers of the signals behind `reset` that pass a test, from one with the given number on
 abbrev pub numbers_where : (Signal → Bool) → ℕ → List Signal → List ℕ
 numbers_where test n [] = []
 numbers_where test n (s ∷ ss) =
     if not (n == 0) && test s then n ∷ numbers_where test (n + 1) ss else numbers_where test (n + 1) ss
 
--- what a block may name where it runs: flat bits of one signal to read, and to write if no two are of one net
+-- what a block may name where it runs: flat bits of one signal, to write only if no two are of one net
 abbrev pub flat_sight : Plan → ℕ → Block → Sight
 flat_sight plan i block = record {
   reads = λ p. is_part (layout_of plan) (flat_part (scope_of plan i) p);
@@ -49,7 +49,7 @@ flat_sight plan i block = record {
   temps = block.temps;
 }
 
--- a block whose parts are flat bits of one signal each, and that writes no part with two bits of one net
+-- a block whose parts are each of one signal, and that writes no part with two bits of one net
 abbrev pub fits_there : Plan → Flat → Bool
 fits_there plan flat =
     list_all (is_sound (flat_sight plan flat.instance (block_at plan flat))) (block_at plan flat).body

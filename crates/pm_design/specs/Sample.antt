@@ -1,4 +1,4 @@
--- A small sound design: a component adds 1 to its input, and its parent keeps the sum in a register.
+-- A small sound design: a component adds 1 to its input, and its parent keeps the sum.
 use Rattle.std.specs.Prelude.{ℕ, true, List, [], ◌∷◌, codes, None, Some}
 use Rattle.pm_bits.specs.declared.operator.Op.TheVariants as operator
 use Rattle.pm_design.specs.declared.body.Block.{Block}

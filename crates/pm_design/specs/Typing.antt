@@ -15,7 +15,7 @@ pub record Holding : Type 0 where
   pub width : ℕ
   pub maxlen : ℕ
 
--- what a body may name: parts to read, parts to write, states and whether it may change them, methods, temporaries
+-- what a body may name: parts to read and to write, states, methods, temporaries; and if it may change states
 pub record Sight : Type 0 where
   pub reads : Part → Bool
   pub writes : Part → Bool
