@@ -1,5 +1,6 @@
 //! Why a class can't be built.
 use pm_io::{NoMemory, Text};
+use std::alloc::{AllocError, AllocFailed};
 use thiserror::Error;
 
 /// The first fault of a run of `construct`. A number is a line of the file, counted from 1.
@@ -56,6 +57,28 @@ impl From<NoMemory> for BuildFault {
     ghost from_gives = { λ _ error. error ≡ fault.NoMemory };
 
     fn from(_error: NoMemory) -> Self {
+        BuildFault::NoMemory
+    }
+}
+
+impl From<AllocError> for BuildFault {
+    ghost use Rattle.std.specs.Prelude.{◌≡◌};
+    ghost use Rattle.pm_values.specs.declared.fault.BuildFault.TheVariants as fault;
+
+    ghost from_gives = { λ _ error. error ≡ fault.NoMemory };
+
+    fn from(_error: AllocError) -> Self {
+        BuildFault::NoMemory
+    }
+}
+
+impl<T: Drop> From<AllocFailed<T>> for BuildFault {
+    ghost use Rattle.std.specs.Prelude.{◌≡◌};
+    ghost use Rattle.pm_values.specs.declared.fault.BuildFault.TheVariants as fault;
+
+    ghost from_gives = { λ _ error. error ≡ fault.NoMemory };
+
+    fn from(_error: AllocFailed<T>) -> Self {
         BuildFault::NoMemory
     }
 }

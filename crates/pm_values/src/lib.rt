@@ -20,4 +20,4 @@ pub use integer::{applied, ceiling_log, operated};
 pub use range::Range;
 pub use reference::{CallerTypes, Form, Reference, ValueType};
 pub use table::Table;
-pub use value::{Member, New, Taken, Value, copy};
+pub use value::{Member, New, Taken, Value, copy, copy_term};

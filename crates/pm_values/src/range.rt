@@ -1,5 +1,5 @@
 //! The integers of a `range`.
-ghost use Rattle.std.specs.Prelude.{◌≡◌, ◌∷◌, [], MatchOption, pos};
+ghost use Rattle.std.specs.Prelude.{◌≡◌, ◌↔◌, ◌∷◌, [], IsNone, MatchOption, pos};
 ghost use Rattle.pm_values.specs.Ranges.{range_list, is_filled};
 
 use std::marker::Model;
@@ -27,7 +27,8 @@ impl Model for Range {
 impl Range {
     /// `None` if and only if the step is 0.
     pub fn new(start: i64, stop: i64, step: i64) -> Option<Range>
-        ensures { MatchOption result (step ≡ pos 0) (λ r. r ≡ range_list start stop step) }
+        ensures value { MatchOption result (step ≡ pos 0) (λ r. r ≡ range_list start stop step) }
+        ensures none { IsNone result ↔ (step ≡ pos 0) }
     {
         if step == 0 {
             return None;

@@ -132,7 +132,8 @@ fn copy_member(alloc: Global, member: &Member) -> Result<Member, NoMemory>
     })
 }
 
-fn copy_term(term: &Term) -> Term
+/// A copy of the term.
+pub fn copy_term(term: &Term) -> Term
     ensures { result ≡ term.now }
 {
     match term {
