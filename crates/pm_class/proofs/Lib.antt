@@ -1,0 +1,4 @@
+pub mod Equalities
+pub mod Movings
+pub mod Namings
+pub mod Pairs

@@ -1,0 +1,17 @@
+pub mod Elab
+pub mod Sites
+pub mod Values
+pub mod Views
+pub mod Attributes
+pub mod Functions
+pub mod Expressions
+pub mod Placing
+pub mod Connections
+pub mod Statements
+pub mod Methods
+pub mod Captures
+pub mod Classes
+pub mod Equality
+pub mod Constructs
+pub mod Files
+pub mod Makes

@@ -1,0 +1,2 @@
+pub mod LoneArguments
+pub mod Meanings
