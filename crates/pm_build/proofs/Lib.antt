@@ -1,0 +1,4 @@
+pub mod Components
+pub mod Makings
+pub mod Nodes
+pub mod Outcomes

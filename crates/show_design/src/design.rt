@@ -1,0 +1,29 @@
+//! From the text of a design file to its design.
+use crate::kinds::write_kinds;
+use crate::page::Page;
+use crate::refusal::Refusal;
+use crate::words::Question;
+use pm_build::build;
+use pm_elab::RawDesign;
+use pm_parse::parse;
+use pm_syn::lex;
+use std::alloc::Global;
+
+/// Writes what the question asks of the design in the text.
+pub fn show(
+    alloc: Global,
+    page: &mut Page,
+    text: &[u8],
+    question: &Question<'_>,
+) -> Result<(), Refusal> {
+    let raw = design_of(alloc, text, question)?;
+    write_kinds(page, &raw);
+    Ok(())
+}
+
+fn design_of(alloc: Global, text: &[u8], question: &Question<'_>) -> Result<RawDesign, Refusal> {
+    let lines = lex(alloc, text)?;
+    let file = parse(alloc, lines.as_slice())?;
+    let raw = build(alloc, &file, question.class, question.params.as_slice())?;
+    Ok(raw)
+}

@@ -1,0 +1,108 @@
+//! What the words of a command line or of a row ask.
+use crate::refusal::Refusal;
+use pm_elab::{Param, ParamValue};
+use pm_io::{List, Text};
+use pm_syn::{Line, TextFault, TokenKind, is_keyword, is_proper_name, lex};
+use std::alloc::Global;
+
+/// The greatest width of a type.
+const MAX_WIDTH: u32 = 128;
+
+/// What is asked: the top class and its parameters. The layer is `kinds`, the only one that is built.
+#[derive(Drop)]
+pub struct Question<'a> {
+    pub class: &'a [u8],
+    pub params: List<Param>,
+}
+
+/// The question that these words ask: the layer, the top class, and a word `name=value` for each parameter.
+pub fn question_of<'a>(
+    alloc: Global,
+    layer: &str,
+    class: &'a str,
+    assignments: &[String],
+) -> Result<Question<'a>, Refusal> {
+    if layer != "kinds" || class.is_empty() {
+        return Err(Refusal::Usage);
+    }
+    Ok(Question {
+        class: class.as_bytes(),
+        params: params_of(alloc, assignments)?,
+    })
+}
+
+fn params_of(alloc: Global, assignments: &[String]) -> Result<List<Param>, Refusal> {
+    let mut params = List::new(alloc);
+    for assignment in assignments {
+        params.push(param_of(alloc, assignment.as_str())?)?;
+    }
+    Ok(params)
+}
+
+fn param_of(alloc: Global, assignment: &str) -> Result<Param, Refusal> {
+    let Some((name, value)) = assignment.split_once('=') else {
+        return Err(Refusal::Usage);
+    };
+    let name = name.as_bytes();
+    if !is_proper_name(name) && !is_keyword(name) {
+        return Err(Refusal::Usage);
+    }
+    let value = value_of(alloc, value)?;
+    Ok(Param {
+        name: Text::from_slice(alloc, name)?,
+        value,
+    })
+}
+
+// `BitsN`, or an integer as a design spells it, with or without a minus before it.
+fn value_of(alloc: Global, value: &str) -> Result<ParamValue, Refusal> {
+    if let Some(digits) = value.strip_prefix("Bits") {
+        return width_of(digits)
+            .map(ParamValue::Width)
+            .ok_or(Refusal::Usage);
+    }
+    let integer = match value.strip_prefix("-") {
+        Some(size) => negative(size_of(alloc, size)?),
+        None => i64::try_from(size_of(alloc, value)?).ok(),
+    };
+    integer.map(ParamValue::Int).ok_or(Refusal::Usage)
+}
+
+fn width_of(digits: &str) -> Option<u32> {
+    if digits.starts_with('0') || digits.starts_with('+') {
+        return None;
+    }
+    let width = digits.parse().ok()?;
+    if width > MAX_WIDTH {
+        return None;
+    }
+    Some(width)
+}
+
+// The integer of 64 bits below 0 that has this size.
+fn negative(size: u128) -> Option<i64> {
+    let size = u64::try_from(size).ok()?;
+    0i64.checked_sub_unsigned(size)
+}
+
+fn size_of(alloc: Global, spelled: &str) -> Result<u128, Refusal> {
+    match lex(alloc, spelled.as_bytes()) {
+        Ok(lines) => integer_in(lines.as_slice(), spelled.len()).ok_or(Refusal::Usage),
+        Err(TextFault::NoMemory) => Err(Refusal::NoMemory),
+        Err(_) => Err(Refusal::Usage),
+    }
+}
+
+// The integer, if the lines are one token of this length that is an integer.
+fn integer_in(lines: &[Line], length: usize) -> Option<u128> {
+    let [line] = lines else {
+        return None;
+    };
+    match line.tokens.as_slice() {
+        [token] if token.text.len() == length => match token.kind {
+            TokenKind::Int(integer) => Some(integer),
+            _ => None,
+        },
+        _ => None,
+    }
+}
