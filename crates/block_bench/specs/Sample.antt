@@ -50,6 +50,7 @@ kind = record {
   methods = [];
   callers = [];
   joins = [];
+  mismatched = [];
   ties = [];
   binds = [];
   blocks = block ∷ [];

@@ -91,6 +91,7 @@ fn kind(alloc: Global) -> Result<Kind, NoMemory>
         methods: List::new(alloc),
         callers: List::new(alloc),
         joins: List::new(alloc),
+        mismatched: List::new(alloc),
         ties: List::new(alloc),
         binds: List::new(alloc),
         blocks: blocks(alloc)?,

@@ -1,11 +1,13 @@
 //! The design of a file's top class.
-ghost use Rattle.std.specs.Prelude.{◌≡◌, Err, [], map};
+ghost use Rattle.std.specs.Prelude.{◌≡◌, Err, IfOk, IsTrue, [], map};
 ghost use Rattle.pm_class.specs.Class.{class_of};
+ghost use Rattle.pm_design.specs.Elaborated.{IsElaborated};
 ghost use Rattle.pm_elab.specs.Constructs.{make_at};
 ghost use Rattle.pm_elab.specs.Elab.{Elabs, Gives};
 ghost use Rattle.pm_elab.specs.Files as spec;
 ghost use Rattle.pm_elab.specs.Makes.{Makes};
 ghost use Rattle.pm_elab.specs.Sites.{scope_of};
+ghost use Rattle.pm_elab_laws.specs.Soundness.{are_good_params, declares_proper_names};
 ghost use Rattle.pm_values.specs.declared.fault.BuildFault.TheVariants.{NoClass};
 
 use crate::file::file_scope;
@@ -153,14 +155,31 @@ impl<
 ///
 /// The statements of the file run first, in order, and then `construct` of the top class and of every class that it makes.
 /// A fault comes at the first statement that fails. `NoClass` and `BadParameter` come after the file's statements.
-#[tactic(auto, unfolding(pm_elab::specs::Files::build))]
+///
+/// The design is sound but for its bodies, which are empty, if the names that the file declares are proper ones, as `parse`
+/// gives them, and each type among the parameters has 1 to 128 bits.
+#[tactic(auto, using(crate::proofs::Soundness::given_sound))]
 pub fn build(
     alloc: Global,
     file: &File,
     class: &[u8],
     params: &[Param],
 ) -> Result<RawDesign, BuildFault>
-    ensures { Gives (spec.build file.now.nodes class.now params.now) result }
+    ensures design { Gives (spec.build file.now.nodes class.now params.now) result }
+    ensures sound { IsTrue (declares_proper_names file.now.nodes) → IsTrue (are_good_params params.now) → IfOk result (λ given. IsElaborated given.design) }
+{
+    built(alloc, file.nodes.as_slice(), class, params)
+}
+
+// The design of the top class, or the first fault.
+#[tactic(auto, unfolding(pm_elab::specs::Files::build))]
+fn built(
+    alloc: Global,
+    nodes: &[Node],
+    class: &[u8],
+    params: &[Param],
+) -> Result<RawDesign, BuildFault>
+    ensures { Gives (spec.build nodes.now class.now params.now) result }
 {
     let outer = Runner {
         builder: Builder {
@@ -181,7 +200,6 @@ pub fn build(
         shapes: List::new(alloc),
         kinds: List::new(alloc),
     };
-    let nodes = file.nodes.as_slice();
     let (names, top) = inner.elaborated(&outer, &mut elaboration, nodes, class, params)?;
     Ok(design_of(alloc, elaboration, names, top)?)
 }

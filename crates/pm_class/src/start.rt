@@ -51,6 +51,7 @@ fn empty_kind(alloc: Global, class: Text, signals: List<Signal>) -> Kind
         methods: List::new(alloc),
         callers: List::new(alloc),
         joins: List::new(alloc),
+        mismatched: List::new(alloc),
         ties: List::new(alloc),
         binds: List::new(alloc),
         blocks: List::new(alloc),
@@ -69,7 +70,6 @@ fn empty_raw(alloc: Global, locals: Table<Local>, attributes: Table<Value>) -> R
         methods: List::new(alloc),
         callers: List::new(alloc),
         bodies: List::new(alloc),
-        mismatched: List::new(alloc),
     }
 }
 

@@ -22,6 +22,7 @@ no_kind = record {
   methods = [];
   callers = [];
   joins = [];
+  mismatched = [];
   ties = [];
   binds = [];
   blocks = [];

@@ -49,6 +49,7 @@ adder = record {
   methods = [];
   callers = [];
   joins = [];
+  mismatched = [];
   ties = [];
   binds = [];
   blocks = adding ∷ [];
@@ -78,6 +79,7 @@ keeper = record {
   methods = [];
   callers = [];
   joins = (record { line = 3; a = byte_of 0 1; b = byte_of 1 1; equal_types = true }) ∷ [];
+  mismatched = [];
   ties = [];
   binds = [];
   blocks = keeping ∷ [];

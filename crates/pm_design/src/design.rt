@@ -24,6 +24,8 @@ pub struct Kind {
     pub methods: List<Method>,
     pub callers: List<Caller>,
     pub joins: List<Join>,
+    /// The lines that connect interfaces whose members differ.
+    pub mismatched: List<u32>,
     pub ties: List<Tie>,
     pub binds: List<Bind>,
     pub blocks: List<Block>,

@@ -372,7 +372,7 @@ named_joining = fold-Member Joining MemberJoining joining_of member_joining
 
 -- the line of a connection of interfaces whose members differ
 abbrev pub with_mismatch : Frame → ℕ → Frame
-with_mismatch f line = record f { raw = record f.raw { mismatched = f.raw.mismatched ++ line ∷ [] } }
+with_mismatch f line = record f { kind = record f.kind { mismatched = f.kind.mismatched ++ line ∷ [] } }
 
 -- two interfaces are connected member by member; where their members' names differ, nothing is
 unfoldable pub join_interfaces : List MadeKind → Value → Value → ℕ → Frame → Checked Frame

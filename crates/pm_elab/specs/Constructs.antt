@@ -62,6 +62,7 @@ empty_kind class signals = record {
   methods = [];
   callers = [];
   joins = [];
+  mismatched = [];
   ties = [];
   binds = [];
   blocks = [];
@@ -78,7 +79,6 @@ empty_raw locals attributes = record {
   methods = [];
   callers = [];
   bodies = [];
-  mismatched = [];
 }
 
 -- `reset` is the first signal of every component

@@ -49,8 +49,6 @@ pub struct RawKind {
     pub methods: List<MethodTypes>,
     pub callers: List<CallerTypes>,
     pub bodies: List<RawBody>,
-    /// The lines that connect interfaces whose members differ.
-    pub mismatched: List<u32>,
 }
 
 /// A design whose bodies aren't typed yet.

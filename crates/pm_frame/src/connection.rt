@@ -197,7 +197,7 @@ fn join_interfaces(
     if matching(a, b) {
         return join_member(alloc, a, kinds, b, frame, line);
     }
-    frame.raw.mismatched.push(line)?;
+    frame.kind.mismatched.push(line)?;
     Ok(())
 }
 
