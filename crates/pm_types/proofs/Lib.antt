@@ -1,0 +1,10 @@
+pub mod ByRank
+pub mod Drops
+pub mod Lines
+pub mod Meetings
+pub mod NodeNames
+pub mod Returns
+pub mod Slots
+pub mod SortedRefs
+pub mod Suiting
+pub mod Weights

@@ -1,0 +1,7 @@
+use Rattle.std.proofs.Common.{◌≡◌, drop}
+use Rattle.pm_types.specs.Bodies.{with_arguments}
+use Rattle.pm_types.proofs.bodies.put_arguments.Given as goal
+
+abbrev pub invariant-loop-argument : goal.invariant-loop-argument
+invariant-loop-argument l =
+    with_arguments l.own l.line (drop l.argument-index l.arguments) l.frame ≡ with_arguments l.own l.line l.arguments l.fn.frame

@@ -1,0 +1,11 @@
+pub mod Effects
+pub mod Targets
+pub mod Declaring
+pub mod Assignments
+pub mod Statements
+pub mod OwnNames
+pub mod Bodies
+pub mod LentReturns
+pub mod ByLine
+pub mod Filled
+pub mod Designs

@@ -1,0 +1,11 @@
+pub mod Counted
+pub mod Things
+pub mod Sites
+pub mod Names
+pub mod References
+pub mod Operands
+pub mod Operators
+pub mod Picks
+pub mod Functions
+pub mod Calls
+pub mod Expressions
