@@ -1,0 +1,4 @@
+//! Laws of the typing of bodies.
+#![tactic(auto)]
+
+pub mod laws;

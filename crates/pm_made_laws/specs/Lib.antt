@@ -1,0 +1,4 @@
+pub mod Shapes
+pub mod Noted
+pub mod Scopes
+pub mod Typed

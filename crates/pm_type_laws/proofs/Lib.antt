@@ -1,0 +1,11 @@
+pub mod Yields
+pub mod Things
+pub mod Values
+pub mod Named
+pub mod Cuts
+pub mod Picking
+pub mod Valued
+pub mod Applied
+pub mod Called
+pub mod Expressions
+pub mod Samples
