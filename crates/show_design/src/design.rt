@@ -2,11 +2,12 @@
 use crate::kinds::write_kinds;
 use crate::page::Page;
 use crate::refusal::Refusal;
-use crate::words::Question;
+use crate::words::{Layer, Question};
 use pm_build::build;
 use pm_elab::RawDesign;
 use pm_parse::parse;
 use pm_syn::lex;
+use pm_types::type_bodies;
 use std::alloc::Global;
 
 /// Writes what the question asks of the design in the text.
@@ -17,7 +18,10 @@ pub fn show(
     question: &Question<'_>,
 ) -> Result<(), Refusal> {
     let raw = design_of(alloc, text, question)?;
-    write_kinds(page, &raw);
+    match question.layer {
+        Layer::Kinds => write_kinds(page, Layer::Kinds, &raw.design),
+        Layer::Bodies => write_kinds(page, Layer::Bodies, &type_bodies(alloc, raw)?),
+    }
     Ok(())
 }
 

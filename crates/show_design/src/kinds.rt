@@ -1,21 +1,20 @@
-//! The layer `kinds`: the bitstructs of a design, its kinds of component, and which kind is the top's.
+//! The layers `kinds` and `bodies`: the bitstructs of a design, its kinds of component, and which kind is the top's.
 use crate::members::{
     write_blocks, write_callers, write_children, write_methods, write_signals, write_states,
 };
 use crate::page::Page;
 use crate::parts::write_range;
 use crate::wiring::{write_binds, write_joins, write_mismatched, write_rules, write_ties};
+use crate::words::Layer;
 use pm_design::{Design, Kind, Shape};
-use pm_elab::{RawDesign, RawKind};
 
-/// Writes the layer.
-pub fn write_kinds(page: &mut Page, raw: &RawDesign) {
-    let design = &raw.design;
+/// Writes the layer, which is `kinds` or `bodies`.
+pub fn write_kinds(page: &mut Page, layer: Layer, design: &Design) {
     for (number, shape) in design.shapes.as_slice().iter().enumerate() {
         write_shape(page, number, shape);
     }
     for (number, kind) in design.kinds.as_slice().iter().enumerate() {
-        write_kind(page, design, number, kind, raw.kinds.as_slice().get(number));
+        write_kind(page, layer, design, number, kind);
     }
     page.put(b"top ");
     page.put_number(design.top);
@@ -39,7 +38,7 @@ fn write_shape(page: &mut Page, number: usize, shape: &Shape) {
     }
 }
 
-fn write_kind(page: &mut Page, design: &Design, number: usize, kind: &Kind, raw: Option<&RawKind>) {
+fn write_kind(page: &mut Page, layer: Layer, design: &Design, number: usize, kind: &Kind) {
     page.put(b"kind ");
     page.put_index(number);
     page.put(b" ");
@@ -51,12 +50,10 @@ fn write_kind(page: &mut Page, design: &Design, number: usize, kind: &Kind, raw:
     write_children(page, kind);
     write_callers(page, kind);
     write_joins(page, design, kind);
-    if let Some(raw) = raw {
-        write_mismatched(page, raw);
-    }
+    write_mismatched(page, kind);
     write_ties(page, design, kind);
     write_binds(page, design, kind);
     write_rules(page, design, kind);
-    write_methods(page, kind);
-    write_blocks(page, kind);
+    write_methods(page, layer, design, kind);
+    write_blocks(page, layer, design, kind);
 }

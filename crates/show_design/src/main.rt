@@ -1,8 +1,9 @@
 //! The program `show_design`: shows what becomes of a design.
 //!
 //! `show_design LAYER FILE TOP [name=value ..]` prints the design of the class TOP after one layer of its way through the
-//! program, or why there is none. The only layer is `kinds`: the bitstructs, the kinds of component and what each of
-//! them has. The status is that of `pymtl`: 1 for a design that is refused, 2 for words that mean nothing.
+//! program, or why there is none. The layer `kinds` has the bitstructs, the kinds of component and what each of them
+//! has; the layer `bodies` has the typed bodies of blocks and methods too. The status is that of `pymtl`: 1 for a
+//! design that is refused, 2 for words that mean nothing.
 //!
 //! `show_design rows` reads rows from its standard input. A row is a title, which begins with `#`, a line
 //! `LAYER TOP [name=value ..]`, and a design up to a line `--`. It prints each title and what becomes of the design.
@@ -10,12 +11,15 @@
 #![tactic(auto)]
 
 mod design;
+mod expressions;
 mod kinds;
 mod members;
 mod page;
 mod parts;
 mod refusal;
 mod rows;
+mod scene;
+mod statements;
 mod status;
 mod wiring;
 mod words;

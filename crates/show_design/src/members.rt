@@ -1,6 +1,8 @@
 //! What a component has: signals, states, children, caller ports, methods and blocks.
 use crate::page::Page;
-use pm_design::{BlockSort, Kind, Role};
+use crate::statements::{write_block_body, write_method_body};
+use crate::words::Layer;
+use pm_design::{BlockSort, Design, Kind, Role};
 
 /// Writes a line for each signal.
 pub fn write_signals(page: &mut Page, kind: &Kind) {
@@ -61,8 +63,8 @@ pub fn write_callers(page: &mut Page, kind: &Kind) {
     }
 }
 
-/// Writes a line for each method.
-pub fn write_methods(page: &mut Page, kind: &Kind) {
+/// Writes a line for each method, and its body where the layer has bodies.
+pub fn write_methods(page: &mut Page, layer: Layer, design: &Design, kind: &Kind) {
     for method in kind.methods.as_slice() {
         page.put(b"  method ");
         page.put(method.name.as_slice());
@@ -75,6 +77,9 @@ pub fn write_methods(page: &mut Page, kind: &Kind) {
         }
         page.put(b")");
         write_result(page, method.result);
+        if layer == Layer::Bodies {
+            write_method_body(page, design, kind, method);
+        }
     }
 }
 
@@ -87,8 +92,8 @@ fn write_result(page: &mut Page, width: Option<u32>) {
     page.put(b"\n");
 }
 
-/// Writes a line for each block.
-pub fn write_blocks(page: &mut Page, kind: &Kind) {
+/// Writes a line for each block, and its body where the layer has bodies.
+pub fn write_blocks(page: &mut Page, layer: Layer, design: &Design, kind: &Kind) {
     for block in kind.blocks.as_slice() {
         page.put(match block.sort {
             BlockSort::Update => b"  update ",
@@ -97,5 +102,8 @@ pub fn write_blocks(page: &mut Page, kind: &Kind) {
         });
         page.put(block.name.as_slice());
         page.put(b"\n");
+        if layer == Layer::Bodies {
+            write_block_body(page, design, kind, block);
+        }
     }
 }

@@ -58,6 +58,19 @@ impl Page {
         }
     }
 
+    /// Writes the name of a temporary.
+    pub fn put_temporary(&mut self, number: u32) {
+        self.put(b"t");
+        self.put_number(number);
+    }
+
+    /// Writes two blanks for each level.
+    pub fn put_indent(&mut self, level: usize) {
+        for _ in 0..level {
+            self.put(b"  ");
+        }
+    }
+
     /// What has been written.
     pub fn as_slice(&self) -> &[u8] {
         self.bytes.as_slice()

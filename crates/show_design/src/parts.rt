@@ -28,6 +28,14 @@ pub fn write_range(page: &mut Page, lo: u32, width: u32) {
     page.put(b"]");
 }
 
+/// Writes the name of a state.
+pub fn write_state(page: &mut Page, kind: &Kind, state: u32) {
+    page.put(match kind.states.as_slice().get(state as usize) {
+        Some(state) => state.name.as_slice(),
+        None => b"?",
+    });
+}
+
 /// Writes the name of a method or a caller port.
 pub fn write_callee(page: &mut Page, design: &Design, kind: &Kind, callee: &Callee) {
     match callee {

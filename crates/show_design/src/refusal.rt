@@ -4,6 +4,7 @@ use crate::status::Status;
 use pm_io::NoMemory;
 use pm_parse::ParseFault;
 use pm_syn::TextFault;
+use pm_types::TypeFault;
 use pm_values::BuildFault;
 use std::alloc::{AllocError, AllocFailed};
 
@@ -17,6 +18,7 @@ pub enum Refusal {
     Text(TextFault),
     Parse(ParseFault),
     Build(BuildFault),
+    Type(TypeFault),
     NoMemory,
 }
 
@@ -35,6 +37,12 @@ impl From<ParseFault> for Refusal {
 impl From<BuildFault> for Refusal {
     fn from(fault: BuildFault) -> Self {
         Refusal::Build(fault)
+    }
+}
+
+impl From<TypeFault> for Refusal {
+    fn from(fault: TypeFault) -> Self {
+        Refusal::Type(fault)
     }
 }
 
@@ -65,8 +73,11 @@ impl Refusal {
             Refusal::NoMemory
             | Refusal::Text(TextFault::NoMemory)
             | Refusal::Parse(ParseFault::NoMemory)
-            | Refusal::Build(BuildFault::NoMemory) => Status::NoMemory,
-            Refusal::Text(_) | Refusal::Parse(_) | Refusal::Build(_) => Status::Refused,
+            | Refusal::Build(BuildFault::NoMemory)
+            | Refusal::Type(TypeFault::NoMemory) => Status::NoMemory,
+            Refusal::Text(_) | Refusal::Parse(_) | Refusal::Build(_) | Refusal::Type(_) => {
+                Status::Refused
+            }
         }
     }
 }
@@ -79,6 +90,7 @@ pub fn write_refusal(page: &mut Page, refusal: &Refusal) {
         Refusal::Text(fault) => write_text_fault(page, fault),
         Refusal::Parse(fault) => write_parse_fault(page, fault),
         Refusal::Build(fault) => write_build_fault(page, fault),
+        Refusal::Type(fault) => write_type_fault(page, fault),
         Refusal::NoMemory => page.put(b"out of memory"),
     }
     page.put(b"\n");
@@ -119,6 +131,18 @@ fn write_build_fault(page: &mut Page, fault: &BuildFault) {
         BuildFault::BuildDepth(line) => at_line(page, b"20 BuildDepth", *line),
         BuildFault::LateCapture(line) => at_line(page, b"21 LateCapture", *line),
         BuildFault::NoMemory => page.put(b"out of memory"),
+    }
+}
+
+fn write_type_fault(page: &mut Page, fault: &TypeFault) {
+    match fault {
+        TypeFault::WidthMismatch(line) => at_line(page, b"30 WidthMismatch", *line),
+        TypeFault::ConstRange(line) => at_line(page, b"31 ConstRange", *line),
+        TypeFault::MaybeUnbound(line) => at_line(page, b"32 MaybeUnbound", *line),
+        TypeFault::NotAllowedHere(line) => at_line(page, b"33 NotAllowedHere", *line),
+        TypeFault::IndexRange(line) => at_line(page, b"34 IndexRange", *line),
+        TypeFault::BodyTooLong(line) => at_line(page, b"35 BodyTooLong", *line),
+        TypeFault::NoMemory => page.put(b"out of memory"),
     }
 }
 

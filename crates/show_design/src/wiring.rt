@@ -3,7 +3,6 @@ use crate::page::Page;
 use crate::parts::{write_callee, write_part};
 use pm_bits::Bits;
 use pm_design::{Design, Kind, Term};
-use pm_elab::RawKind;
 
 /// Writes a line for each connection of two parts.
 pub fn write_joins(page: &mut Page, design: &Design, kind: &Kind) {
@@ -19,8 +18,8 @@ pub fn write_joins(page: &mut Page, design: &Design, kind: &Kind) {
 }
 
 /// Writes a line for each connection of interfaces whose members differ.
-pub fn write_mismatched(page: &mut Page, raw: &RawKind) {
-    for line in raw.mismatched.as_slice() {
+pub fn write_mismatched(page: &mut Page, kind: &Kind) {
+    for line in kind.mismatched.as_slice() {
         page.put(b"  mismatched");
         page.put_field(b"line", *line);
         page.put(b"\n");
@@ -43,8 +42,8 @@ pub fn write_ties(page: &mut Page, design: &Design, kind: &Kind) {
     }
 }
 
-// Writes a constant, as `8'd5`.
-fn write_bits(page: &mut Page, value: Bits) {
+/// Writes a constant, as `8'd5`.
+pub fn write_bits(page: &mut Page, value: Bits) {
     page.put_number(value.width());
     page.put(b"'d");
     page.put_wide(value.value());

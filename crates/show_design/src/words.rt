@@ -8,9 +8,19 @@ use std::alloc::Global;
 /// The greatest width of a type.
 const MAX_WIDTH: u32 = 128;
 
-/// What is asked: the top class and its parameters. The layer is `kinds`, the only one that is built.
+/// How far a design goes before it is shown.
+#[derive(Clone, Copy, PartialEq, Eq)]
+pub enum Layer {
+    /// Its kinds of component, as `construct` makes them.
+    Kinds,
+    /// Its kinds of component with the typed bodies of blocks and methods.
+    Bodies,
+}
+
+/// What is asked: the layer, the top class and its parameters.
 #[derive(Drop)]
 pub struct Question<'a> {
+    pub layer: Layer,
     pub class: &'a [u8],
     pub params: List<Param>,
 }
@@ -22,13 +32,23 @@ pub fn question_of<'a>(
     class: &'a str,
     assignments: &[String],
 ) -> Result<Question<'a>, Refusal> {
-    if layer != "kinds" || class.is_empty() {
+    let layer = layer_of(layer)?;
+    if class.is_empty() {
         return Err(Refusal::Usage);
     }
     Ok(Question {
+        layer,
         class: class.as_bytes(),
         params: params_of(alloc, assignments)?,
     })
+}
+
+fn layer_of(word: &str) -> Result<Layer, Refusal> {
+    match word {
+        "kinds" => Ok(Layer::Kinds),
+        "bodies" => Ok(Layer::Bodies),
+        _ => Err(Refusal::Usage),
+    }
 }
 
 fn params_of(alloc: Global, assignments: &[String]) -> Result<List<Param>, Refusal> {
