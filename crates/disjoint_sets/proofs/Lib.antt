@@ -1,0 +1,5 @@
+pub mod Chains
+pub mod Joining
+pub mod Numbered
+pub mod Roots
+pub mod Views

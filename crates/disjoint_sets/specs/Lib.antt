@@ -1,0 +1,4 @@
+pub mod Connected
+pub mod Forests
+pub mod Partitions
+pub mod Unions

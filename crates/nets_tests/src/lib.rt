@@ -1,0 +1,5 @@
+//! Tests of disjoint sets.
+#![tactic(auto)]
+
+#[cfg(test)]
+mod sets;

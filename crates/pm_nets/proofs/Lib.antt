@@ -1,0 +1,17 @@
+pub mod Offsets
+pub mod Parts
+pub mod Joined
+pub mod Resets
+pub mod Owners
+pub mod Lines
+pub mod Leasts
+pub mod Writing
+pub mod DrivenParts
+pub mod Marking
+pub mod FirstUndriven
+pub mod BitNames
+pub mod FirstGivers
+pub mod Ending
+pub mod GiverLists
+pub mod GiftLists
+pub mod DoubleBits

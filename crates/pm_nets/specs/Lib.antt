@@ -1,0 +1,9 @@
+pub mod Answers
+pub mod Drivers
+pub mod Ends
+pub mod Faults
+pub mod Givers
+pub mod Links
+pub mod SignalBits
+pub mod Sites
+pub mod Written
