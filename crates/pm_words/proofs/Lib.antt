@@ -1,0 +1,12 @@
+pub mod Answered
+pub mod Cuts
+pub mod Digits
+pub mod Found
+pub mod Jobs
+pub mod Literals
+pub mod Meanings
+pub mod Names
+pub mod Steps
+pub mod Params
+pub mod Simple
+pub mod Widths

@@ -1,0 +1,4 @@
+pub mod Command
+pub mod Entries
+pub mod Readings
+pub mod Words
