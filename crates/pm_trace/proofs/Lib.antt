@@ -1,0 +1,9 @@
+pub mod Columns
+pub mod FilledRows
+pub mod LineWords
+pub mod Numbers
+pub mod OneReading
+pub mod Places
+pub mod Positions
+pub mod ReadBack
+pub mod Steps

@@ -1,0 +1,7 @@
+pub mod Headers
+pub mod Laws
+pub mod Reading
+pub mod Rows
+pub mod Trace
+pub mod Values
+pub mod Words
