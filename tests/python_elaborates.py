@@ -65,9 +65,9 @@ def found(text, top, words):
         return None
 
 
-def shown(program, designs):
+def shown(program, designs, layer="kinds"):
     """What the program shows of each design, a text, the name of its top and words."""
-    rows = [f"# {n}\nkinds {' '.join([top, *words])}\n{text}\n--\n" for n, (text, top, words) in enumerate(designs)]
+    rows = [f"# {n}\n{layer} {' '.join([top, *words])}\n{text}\n--\n" for n, (text, top, words) in enumerate(designs)]
     run = subprocess.run([program, "rows"], input="".join(rows), capture_output=True, text=True)
     parts = re.split(r"^# ([0-9]+)\n", run.stdout, flags=re.MULTILINE)
     answers = dict(zip(map(int, parts[1::2]), parts[2::2]))
@@ -80,7 +80,7 @@ def shown_of_file(program, file, words):
 
 def examples():
     designs = []
-    for file in sorted(EXAMPLES.glob("*.py")):
+    for file in sorted(EXAMPLES.rglob("*.py")):
         tops = re.findall(r"^class ([A-Za-z_0-9]+)\( *Component *\)", file.read_text(), flags=re.MULTILINE)
         designs.extend((file, [top]) for top in tops)
     return designs + [(EXAMPLES / name, words.split()) for name, words in WITH_WORDS]

@@ -39,6 +39,7 @@ class Notes:
         self.name = name
         self.shapes = []
         self.kinds = []
+        self.first_of = []  # of each kind the first component that was made
         self.number_of = {}  # a class and its arguments, and the number of their kind
         self.running = []  # components and interfaces whose `construct` runs, the innermost last
         self.first_line = {}  # of each line of the text the one at which its logical line begins
@@ -173,7 +174,7 @@ class End:
         if isinstance(other, types.FunctionType) and other.__name__ == "<lambda>":
             need(isinstance(self, Part), "a lambda needs a signal")
             self._seen()
-            notes.component()._add_lambda()
+            notes.component()._add_lambda(self, other)
         else:
             connect(self, other)
         return self
@@ -186,8 +187,8 @@ class End:
 class Part(End):
     """Bits of a signal. A whole signal is one too."""
 
-    def __init__(self, signal, low, kind):
-        set_all(self, _signal=signal, _low=low, _kind=kind)
+    def __init__(self, signal, low, kind, form):
+        set_all(self, _signal=signal, _low=low, _kind=kind, _form=form)
 
     def _seen(self):
         """Its text, if the component whose `construct` runs sees it as a signal of its own or as a child's port."""
@@ -203,7 +204,7 @@ class Part(End):
             need(type(place) in (int, bool), "an index is no integer")
             low, high = place, place + 1
         need(0 <= low < high <= width, "outside the signal")
-        return Part(self._signal, self._low + low, Type(high - low))
+        return Part(self._signal, self._low + low, Type(high - low), "slice")
 
     def __setitem__(self, place, value):
         need(isinstance(value, Part), "assignment to bits")
@@ -213,7 +214,7 @@ class Part(End):
         fields = notes.shapes[self._kind.shape].fields
         need(name in fields, "no such field")
         low, kind = fields[name]
-        return Part(self._signal, self._low + low, kind)
+        return Part(self._signal, self._low + low, kind, "field")
 
     def __setattr__(self, name, value):
         need(isinstance(value, Part), "assignment to a field")
@@ -225,12 +226,13 @@ class Signal(Part):
     def __init__(self, role, kind):
         kind = kind if isinstance(kind, Type) else Type(kind)
         set_all(self, _role=role, _owner=None, _name=None)
-        Part.__init__(self, self, 0, kind)
+        Part.__init__(self, self, 0, kind, "whole")
 
     def _take(self, owner, name):
         set_all(self, _owner=owner, _name=name)
         shape = "" if self._kind.shape is None else f" shape {self._kind.shape}"
         owner._kind.signals.append(f"{self._role} {name} {self._kind.nbits}{shape}")
+        owner._signals.append(self)
 
     def _name_in(self, component):
         if self._owner is component:
@@ -257,8 +259,10 @@ def Wire(kind=1):
 
 
 class State:
-    def __init__(self, owner):
-        self.owner = owner
+    """A deque of at most `maxlen` items, or a number, whose `maxlen` is 0."""
+
+    def __init__(self, owner, name, kind, maxlen, start):
+        self.owner, self.name, self.kind, self.maxlen, self.start = owner, name, kind, maxlen, start
 
 
 class Callee(End):
@@ -297,11 +301,17 @@ def method_of(owner, name, function):
     parameters = list(inspect.signature(function).parameters.values())[1:]
     need(all(parameter.default is parameter.empty for parameter in parameters), "a method has no defaults")
     result = function.__annotations__.get("return")
-    return Callee([type_of(p.annotation) for p in parameters], result and type_of(result), False, owner, name)
+    callee = Callee([type_of(p.annotation) for p in parameters], result and type_of(result), False, owner, name)
+    callee.function = function
+    return callee
 
 
 def non_blocking(guard):
-    return lambda function: function
+    def guarded(function):
+        function.guard = guard
+        return function
+
+    return guarded
 
 
 # ---- connections
@@ -313,10 +323,12 @@ def connect(a, b):
     if isinstance(a, Callee) and isinstance(b, Callee):
         need(a.is_port or b.is_port, "two methods")
         kind.binds.append(f"bind line {line} {a._seen()} {b._seen()}{'' if a.types() == b.types() else ' unequal'}")
+        component._binds.append((line, a, b))
     elif isinstance(a, Interface) and isinstance(b, Interface):
         pairs = matched(a, b)
         if pairs is None:
             kind.mismatched.append(f"mismatched line {line}")
+            component._mismatched.append(line)
         for one, other in pairs or []:
             connect_ends(kind, line, one, other)
     else:
@@ -330,21 +342,25 @@ def connect_ends(kind, line, a, b):
     if isinstance(a, Part) and isinstance(b, Part):
         equal = a._kind.key() == b._kind.key()
         kind.joins.append(f"join line {line} {a._seen()} {b._seen()}{'' if equal else ' unequal'}")
+        notes.component()._joins.append((line, a, b, equal))
         return
     part, value = (a, b) if isinstance(a, Part) else (b, a)
     need(isinstance(part, Part) and isinstance(value, (int, Constant)), "no ends")
-    kind.ties.append(f"tie line {line} {part._seen()} {tied(part._kind, value)}")
+    number = tied(part._kind, value)
+    text = "unfit" if number is None else f"{part._kind.nbits}'d{number}"
+    kind.ties.append(f"tie line {line} {part._seen()} {text}")
+    notes.component()._ties.append((line, part, number))
 
 
 def tied(kind, value):
-    """The text of a constant that is tied to bits of this type."""
+    """The number that a constant gives bits of this type, or None if it doesn't fit."""
     if isinstance(value, Constant):
         fit, number = value.width == kind.nbits, value.value
     else:
         fit, number = fits(kind.nbits, value), value
     if not fit or kind.shape is not None:
-        return "unfit"
-    return f"{kind.nbits}'d{number % (1 << kind.nbits)}"
+        return None
+    return number % (1 << kind.nbits)
 
 
 def matched(a, b):
@@ -371,8 +387,8 @@ def matched_all(pairs):
 
 
 class Term:
-    def __init__(self, text):
-        self.text = text
+    def __init__(self, text, word, thing):
+        self.text, self.word, self.thing = text, word, thing
 
     def __lt__(self, other):
         return Rule(self, other)
@@ -384,24 +400,28 @@ class Term:
 class Rule:
     def __init__(self, before, after):
         need(isinstance(before, Term) and isinstance(after, Term), "a term is needed")
+        self.before, self.after = before, after
         self.text = f"{before.text} < {after.text}"
 
 
 class Block:
-    def __init__(self, sort, name):
-        self.sort, self.name = sort, name
+    """An update block: a function, or a lambda with its target."""
+
+    def __init__(self, owner, sort, name, line, function, target=None):
+        self.owner, self.sort, self.name, self.line = owner, sort, name, line
+        self.function, self.target = function, target
 
 
 def U(block):
     need(isinstance(block, Block), "a block is needed")
-    return Term("wrong" if block.sort == "update_ff" else f"U({block.name})")
+    return Term("wrong", "wrong", block) if block.sort == "update_ff" else Term(f"U({block.name})", "U", block)
 
 
 def touched(word, thing):
     if isinstance(thing, State):
-        return Term("wrong")
+        return Term("wrong", "wrong", thing)
     need(isinstance(thing, Part), "a signal is needed")
-    return Term(f"{word}({thing._seen()})")
+    return Term(f"{word}({thing._seen()})", word, thing)
 
 
 def RD(thing):
@@ -414,22 +434,22 @@ def WR(thing):
 
 def M(callee):
     need(isinstance(callee, Callee), "a method is needed")
-    return Term(f"M({callee._seen()})")
+    return Term(f"M({callee._seen()})", "M", callee)
 
 
 # ---- blocks
 
 
 def update(function):
-    return notes.component()._add_block("update", function.__name__)
+    return notes.component()._add_block("update", function.__name__, function)
 
 
 def update_once(function):
-    return notes.component()._add_block("update_once", function.__name__)
+    return notes.component()._add_block("update_once", function.__name__, function)
 
 
 def update_ff(function):
-    return notes.component()._add_block("update_ff", function.__name__)
+    return notes.component()._add_block("update_ff", function.__name__, function)
 
 
 # ---- components and interfaces
@@ -476,7 +496,8 @@ def run_construct(thing, positional, named):
 class Component:
     def __init__(self, *positional, **named):
         set_all(self, _kind=Kind(type(self).__name__), _parent=None, _values={}, _children={})
-        set_all(self, _lambdas=0, _blocks=set())
+        set_all(self, _lambdas=0, _blocks=[], _joins=[], _mismatched=[], _ties=[], _binds=[], _rules=[])
+        set_all(self, _signals=[], _states=[], _callers=[])
         set_all(self, _methods={
             name: method_of(self, name, function)
             for name, function in vars(type(self)).items()
@@ -487,11 +508,13 @@ class Component:
         reset = Signal("input", 1)
         set_all(reset, _owner=self, _name="reset")
         self._values["reset"] = reset
+        self._signals.append(reset)
         # Python runs it each time, although a kind is noted once: each child has attributes of its own.
         key = (type(self).__name__, run_construct(self, positional, named))
         if key not in notes.number_of:
             notes.number_of[key] = len(notes.kinds)
             notes.kinds.append(self._kind)
+            notes.first_of.append(self)
         set_all(self, _number=notes.number_of[key])
 
     def construct(s):
@@ -517,6 +540,7 @@ class Component:
         elif isinstance(value, Callee) and value.owner is None:
             value.owner, value.name = self, name
             self._kind.callers.append(f"caller {value.text()}")
+            self._callers.append(value)
         else:
             self._take(name, value)
         self._values[name] = value
@@ -553,16 +577,20 @@ class Component:
         else:
             need(type(value) in (int, bool) and fits(kind.nbits, value), "start")
             self._kind.states.append(f"number {name} {kind.nbits} start {value % (1 << kind.nbits)}")
-        return State(self)
+        is_deque = isinstance(value, deque)
+        state = State(self, name, kind, value.maxlen if is_deque else 0, 0 if is_deque else value % (1 << kind.nbits))
+        self._states.append(state)
+        return state
 
-    def _add_block(self, sort, name):
-        need(name not in self._blocks, "a block is made twice")
-        self._blocks.add(name)
+    def _add_block(self, sort, name, function, target=None):
+        need(all(block.name != name for block in self._blocks), "a block is made twice")
+        block = Block(self, sort, name, notes.line(), function, target)
+        self._blocks.append(block)
         self._kind.blocks.append(f"{sort} {name}")
-        return Block(sort, name)
+        return block
 
-    def _add_lambda(self):
-        self._add_block("update", f"lambda_{self._lambdas}")
+    def _add_lambda(self, target, function):
+        self._add_block("update", f"lambda_{self._lambdas}", function, target)
         set_all(self, _lambdas=self._lambdas + 1)
 
     def add_constraints(self, *rules):
@@ -570,6 +598,7 @@ class Component:
         for rule in rules:
             need(isinstance(rule, Rule), "a constraint is needed")
             self._kind.rules.append(f"rule line {notes.line()} {rule.text}")
+            self._rules.append((notes.line(), rule))
 
     def _child_name(self, child):
         need(child in self._children, "no child's port")
