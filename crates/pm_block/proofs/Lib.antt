@@ -10,7 +10,6 @@ pub mod ValuesFit
 pub mod RunsMean
 pub mod Mosts
 pub mod Concatenations
-pub mod Elements
 pub mod Equations
 pub mod Statements
 pub mod Plain
@@ -20,3 +19,4 @@ pub mod Branches
 pub mod Picked
 pub mod Settled
 pub mod Started
+pub mod WholeSignals

@@ -13,7 +13,7 @@ use Rattle.pm_design.specs.Widths.{is_width}
 use Rattle.pm_block.specs.declared.block_run.Run.{Run}
 use Rattle.pm_block.specs.declared.block_run.Run.TheVariants as which
 use Rattle.pm_block.specs.Tables.{can_run, ends_below, flat_of, most, most_in, no_flat}
-use Rattle.pm_block.proofs.Elements.{element_passes}
+use Rattle.pm_design.proofs.Elements.{element_passes}
 use Rattle.pm_block.proofs.There.{has_kind, is_block}
 
 -- it is there

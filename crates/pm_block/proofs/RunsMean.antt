@@ -1,14 +1,14 @@
 -- What single expressions and statements do, in plainer terms.
-use Rattle.std.proofs.Common.{◌≡◌, ◌≢◌, ◌∙◌, ◌+◌, ◌*◌, ◌/◌, ◌%◌, ◌^◌, ◌<◌, ◌≤◌, ◌==◌, ◌&&◌, ℕ, zero, suc, List, refl, sym, ap, ap₂, subst, Bool, true, false, not, length, nat_lt, arith, eqb-true, ltb-true, true≢false}
+use Rattle.std.proofs.Common.{◌≡◌, ◌≢◌, ◌∙◌, ◌+◌, ◌*◌, ◌/◌, ◌%◌, ◌^◌, ◌<◌, ◌≤◌, ◌==◌, ℕ, zero, suc, refl, sym, ap, ap₂, subst, Bool, true, false, not, length, nat_lt, arith, eqb-true, ltb-true, true≢false}
 use Rattle.std.specs.Prelude.{IsTrue, if◌then◌else◌, slice_index_or}
 use Rattle.std.proofs.lemmas.Bool.{and_parts, eqb-false, le-ltb, ltb-false}
 use Rattle.std.proofs.lemmas.Nat.{mod-pow-add}
 use Rattle.std.proofs.Math.Nat.{mod-eq_of_lt}
-use Rattle.pm_bits.specs.Word.{Word, IsWord, bit_of}
+use Rattle.pm_bits.specs.Word.{Word, bit_of}
 use Rattle.pm_design.specs.declared.body.St.TheVariants as st
 use Rattle.pm_design.specs.Layout.{are_apart, is_other}
 use Rattle.pm_design.specs.Typing.{element_width}
-use Rattle.pm_block.specs.Places.{Valuation, number_at, put, put_at, word_at}
+use Rattle.pm_block.specs.Places.{Valuation, number_at, put, put_at}
 use Rattle.pm_block.specs.Run.{State, assigned, put_part, run, value_in}
 use Rattle.pm_block.specs.RunLaws.{LastAssignmentCounts, AssignmentsWait, OthersStay, PastTheEndReadsZero, PastTheEndWritesNothing, PutIsRead}
 use Rattle.pm_block.specs.Value.{no_part, part_word, places_of, value, zero_word}

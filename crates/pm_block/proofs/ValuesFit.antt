@@ -22,7 +22,7 @@ use Rattle.pm_design.specs.Widths.{total, is_width, log_of}
 use Rattle.pm_block.specs.Places.{Valuation, Items, number_at}
 use Rattle.pm_block.specs.Value.{Frame, Temporaries, concatenated, count_of, joined, no_part, part_word, picked_word, places_of, value, value_step, zero_word}
 use Rattle.pm_block.specs.ValueLaws.{HasWidth, IsExpected, ValueFits}
-use Rattle.pm_block.proofs.Elements.{element_passes}
+use Rattle.pm_design.proofs.Elements.{element_passes}
 
 -- a value fits what its typing says
 Fits : Word → Typing → Type 0

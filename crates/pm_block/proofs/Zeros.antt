@@ -15,7 +15,7 @@ use Rattle.pm_block.specs.First.{held_at_first, held_first, no_values}
 use Rattle.pm_block.specs.Places.{Held, is_tidy}
 use Rattle.pm_block.specs.Stored.{at_of}
 use Rattle.pm_block.specs.Value.{zero_word}
-use Rattle.pm_block.proofs.Elements.{element_passes}
+use Rattle.pm_design.proofs.Elements.{element_passes}
 use Rattle.pm_block.proofs.Firsts.{drop_at}
 
 none_set : (n i : ℕ) → slice_index_or (replicate n false) i false ≡ false

@@ -1,4 +1,5 @@
 pub mod Places
+pub mod Signals
 pub mod Value
 pub mod Run
 pub mod Plans

@@ -58,7 +58,7 @@ fn object(alloc: Global, state: &State) -> Result<Object, NoMemory>
 }
 
 // What is held of states at first, behind others.
-#[tactic(auto, using(crate::proofs::Elements::item_passes, crate::proofs::Firsts::one_more_held))]
+#[tactic(auto, using(pm_design::proofs::Elements::item_passes, crate::proofs::Firsts::one_more_held))]
 fn push_objects(alloc: Global, list: &mut Vec<Object>, states: &[State]) -> Result<(), NoMemory>
     requires { IsTrue (list_all is_good_state states.now) }
     ensures { OnOk result (list.new.items ≡ list.old.items ++ map held_first states.now) }
@@ -96,7 +96,7 @@ fn tie<P: Places>(scope: &[List<u32>], places: &mut P, tie: &Tie)
 }
 
 // Puts the constants of an instance's ties into their bits.
-#[tactic(auto, using(crate::proofs::Elements::item_passes, crate::proofs::Firsts::one_more_tie))]
+#[tactic(auto, using(pm_design::proofs::Elements::item_passes, crate::proofs::Firsts::one_more_tie))]
 fn tie_all<P: Places>(scope: &[List<u32>], places: &mut P, ties: &[Tie])
     requires { IsTrue (list_all (λ t. is_tied_at scope.now (P.layout places.old) t t.value) ties.now) }
     ensures layout { P.layout places.new ≡ P.layout places.old }

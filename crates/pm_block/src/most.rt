@@ -9,7 +9,7 @@ use crate::lookup::block_of;
 use pm_design::{Flat, Plan, St};
 
 /// The most temporaries that one of these blocks has.
-#[tactic(auto, using(crate::proofs::Mosts::most_behind, crate::proofs::Elements::item_passes))]
+#[tactic(auto, using(crate::proofs::Mosts::most_behind, pm_design::proofs::Elements::item_passes))]
 pub(crate) fn most_temps(plan: &Plan, flats: &[Flat]) -> usize
     requires { IsTrue (list_all (is_there plan.now) flats.now) }
     ensures { result ≡ most (temps_in plan.now) flats.now }
@@ -28,7 +28,7 @@ pub(crate) fn greater(a: usize, b: usize) -> usize
 }
 
 /// The most assignments that one of these blocks may make, if that is a number of 64 bits.
-#[tactic(auto, using(crate::proofs::Mosts::most_behind, crate::proofs::Elements::item_passes))]
+#[tactic(auto, using(crate::proofs::Mosts::most_behind, pm_design::proofs::Elements::item_passes))]
 pub(crate) fn most_assignments(plan: &Plan, flats: &[Flat]) -> Option<usize>
     requires { IsTrue (list_all (is_there plan.now) flats.now) }
     ensures { IfSome result (λ n. n ≡ most (assignments_in plan.now) flats.now) }

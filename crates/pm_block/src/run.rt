@@ -62,7 +62,7 @@ fn part_at(parts: &[Part], i: usize) -> Part
 }
 
 // Assigns the part that an index picks, and nothing past the end.
-#[tactic(auto, using(crate::proofs::Elements::element_passes))]
+#[tactic(auto, using(pm_design::proofs::Elements::element_passes))]
 fn assign_picked<P: Places>(
     site: &Site,
     clocked: bool,
@@ -257,7 +257,7 @@ fn start_all(words: &mut [Bits], widths: &[u32])
     }
 }
 
-#[tactic(auto, using(crate::proofs::Elements::element_passes))]
+#[tactic(auto, using(pm_design::proofs::Elements::element_passes))]
 fn width_at(widths: &[u32], i: usize) -> u32
     requires there { i < length widths.now }
     requires widths { IsTrue (list_all is_width widths.now) }

@@ -104,7 +104,7 @@ fn together(high: Bits, low: Bits) -> Bits
 }
 
 // The word of the part that an index picks, and 0 past the end.
-#[tactic(auto, using(crate::proofs::Elements::element_passes))]
+#[tactic(auto, using(pm_design::proofs::Elements::element_passes))]
 fn pick<P: Places>(site: &Site, places: &P, parts: &[Part], index: Bits) -> Bits
     requires some { 0 < length parts.now }
     requires parts { IsTrue (list_all (λ p. is_part (P.layout places.now) (flat_part site.now.scope.now p) && p.width == element_width parts.now) parts.now) }

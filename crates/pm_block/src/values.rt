@@ -4,6 +4,7 @@ ghost use Rattle.pm_design.specs.Layout.{is_part, layout_of, net_from};
 ghost use Rattle.pm_design.specs.Runnable.{IsRunnable};
 ghost use Rattle.pm_block.specs.First.{first_values, held_at_first, no_values};
 ghost use Rattle.pm_block.specs.Places.{is_tidy, number_at, put};
+ghost use Rattle.pm_block.specs.Signals.{signal_part, signal_word};
 ghost use Rattle.pm_block.specs.Stored.{at_of};
 
 use crate::first::{objects, signals, tie_instances};
@@ -104,6 +105,15 @@ impl Values {
         let held = objects(alloc, plan)?;
         let net_of = Vec::from_slice(alloc, plan.nets.net_of.as_slice())?;
         Values::zeros(alloc, net_of, plan.nets.count as usize, signals, held)
+    }
+
+    /// The word of a signal, by its number among the signals of all instances. Those of the top are the first.
+    pub fn signal(&self, number: u32) -> Bits
+        requires there { number < length self.now.layout.signals }
+        requires part { IsTrue (is_part self.now.layout (signal_part self.now.layout number)) }
+        ensures { result ≡ signal_word self.now.layout (at_of self.now.bits) number }
+    {
+        self.get(self.signals[number as usize])
     }
 
     /// A copy.

@@ -4,3 +4,5 @@ pub mod Progressing
 pub mod Samples
 pub mod Counts
 pub mod SamplePlans
+pub mod Elements
+pub mod Ports

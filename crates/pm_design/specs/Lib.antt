@@ -11,3 +11,4 @@ pub mod Layout
 pub mod Calls
 pub mod Nodes
 pub mod Runnable
+pub mod Ports

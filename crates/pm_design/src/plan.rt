@@ -1,7 +1,14 @@
 //! A design laid out: its instances, nets and update blocks, and the order in which the blocks run.
+ghost use Rattle.std.specs.Prelude.{◌≡◌, ◌<◌, IfOk, IsTrue, length};
+ghost use Rattle.pm_design.specs.Ports as spec;
+ghost use Rattle.pm_design.specs.Ports.{HasPorts, IsRowOf};
+ghost use Rattle.pm_design.specs.Widths.{is_width};
+
 use crate::design::Design;
+use crate::signal::Signal;
 use pm_bits::Bits;
-use pm_io::{List, Text};
+use pm_io::{List, NoMemory, Text};
+use std::alloc::Global;
 
 /// A component of the hierarchy. Instances are numbered in preorder, the top first.
 #[derive(Drop)]
@@ -83,4 +90,54 @@ pub struct Plan {
 #[derive(Drop)]
 pub struct Row {
     pub values: List<Bits>,
+}
+
+impl Plan {
+    /// The signals of the top's kind, `reset` first. The plan's `inputs` and `ports` are numbers of them.
+    pub fn top_signals(&self) -> &[Signal]
+        requires { self.now.design.top < length self.now.design.kinds }
+        ensures { result.now ≡ spec.top_signals self.now }
+    {
+        self.design.kinds.as_slice()[self.design.top as usize]
+            .signals
+            .as_slice()
+    }
+}
+
+impl Row {
+    /// A value of 0 for each input of the top, of the input's width.
+    #[tactic(auto, using(crate::proofs::Ports::zero_row_fits))]
+    pub fn new(alloc: Global, plan: &Plan) -> Result<Row, NoMemory>
+        requires { HasPorts plan.now }
+        ensures zeros { IfOk result (λ row. row.values ≡ spec.zero_row plan.now) }
+        ensures fits { IfOk result (λ row. IsRowOf plan.now row.values) }
+    {
+        let values = zeros(alloc, plan)?;
+        Ok(Row { values })
+    }
+}
+
+// A value of 0 for each input.
+#[tactic(auto, using(crate::proofs::Elements::item_passes))]
+fn zeros(alloc: Global, plan: &Plan) -> Result<List<Bits>, NoMemory>
+    requires { HasPorts plan.now }
+    ensures { IfOk result (λ values. values ≡ spec.zero_row plan.now) }
+{
+    let signals = plan.top_signals();
+    let mut values = List::new(alloc);
+    for number in plan.inputs.as_slice() {
+        values.push(zero(signals[*number as usize].width))?;
+    }
+    Ok(values)
+}
+
+// The value 0 of a width.
+fn zero(width: u32) -> Bits
+    requires { IsTrue (is_width width) }
+    ensures { result ≡ record { width = width; value = 0 } }
+{
+    match Bits::new(width, 0) {
+        Some(value) => value,
+        None => unreachable!(),
+    }
 }
