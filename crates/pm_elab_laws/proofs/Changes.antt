@@ -74,7 +74,6 @@ module _ (P : Frame → Type 0)
     (lambdas : (f : Frame) → P f → P (one_lambda_more f))
     (states : (f : Frame) (name : List ℕ) (t : ValueType) (s : Start) → P f → P (with_state f name t s))
     (rules : (f : Frame) (line : ℕ) (t u : Term) → P f → P (with_rule f line t u))
-    (methods : (f : Frame) (name : List ℕ) (types : MethodTypes) → P f → P (method_added name types f))
     (Good : Value → Type 0)
     (takens : (t : Taken) → Good (value.Taken t))
     (locals : (f : Frame) (name : List ℕ) (v : Value) → Good v → P f → P (local_put name v f))
@@ -154,10 +153,11 @@ module _ (P : Frame → Type 0)
   guard_on m (Some g) f is = bodies f (at.Guard m) g.line (code.Guard g.condition) is
 
   -- a method
-  pub method_on : (name : List ℕ) (types : MethodTypes) (g : Option GuardLine) (line : ℕ) (nodes : List Node)
-      (f : Frame) → P f → On (method_put name types g line nodes f) P
+  pub method_on : ((f : Frame) (name : List ℕ) (types : MethodTypes) → P f → P (method_added name types f))
+      → (name : List ℕ) (types : MethodTypes) (g : Option GuardLine) (line : ℕ) (nodes : List Node) (f : Frame) → P f
+      → On (method_put name types g line nodes f) P
   unfolding method_put method_set named_method
-  method_on name types g line nodes f is = unless_so P (is_used f name) (SameName line) (Ok (method_set name types g
+  method_on methods name types g line nodes f is = unless_so P (is_used f name) (SameName line) (Ok (method_set name types g
       line nodes f))
       (bodies _ (at.Method (length f.kind.methods)) line (code.Statements nodes) (guard_on (length f.kind.methods) g
       _ (attributes (method_added name types f) name _ (takens _) (methods f name types is))))

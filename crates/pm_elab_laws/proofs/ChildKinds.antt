@@ -455,7 +455,7 @@ ordering = record {
       is. block_named (length n.kinds) f name s there is) (λ f is. other (length n.kinds) f _ refl refl refl is)
       (λ f name t s is. other (length n.kinds) f _ refl refl refl is) (λ f line t u is. other (length n.kinds) f
       _ refl refl refl is)
-      (λ f name types is. method_named (length n.kinds) f name types is) (λ v. is_made (length n.kinds) v ≡ true)
+      (λ v. is_made (length n.kinds) v ≡ true)
       (λ t. made_taken (length n.kinds) t) (λ f name v good is. local_named (length n.kinds) f name v good is)
       (λ f name v good is. attribute_named (length n.kinds) f name v good is)
       n.kinds line (λ v at f good is. placed (length n.kinds) _ f (places (framing (length n.kinds)) n.kinds line
@@ -471,7 +471,7 @@ ordering = record {
       (length n.kinds) f p line c) (λ f name s there is. block_named (length n.kinds) f name s there is)
       (λ f is. other (length n.kinds) f _ refl refl refl is) (λ f name t s is. other (length n.kinds) f _ refl refl
       refl is) (λ f line t u is. other (length n.kinds) f _ refl refl refl is)
-      (λ f name types is. method_named (length n.kinds) f name types is) (λ v. is_made (length n.kinds) v ≡ true)
+      (λ v. is_made (length n.kinds) v ≡ true)
       (λ t. made_taken (length n.kinds) t) (λ f name v good is. local_named (length n.kinds) f name v good is)
       (λ f name v good is. attribute_named (length n.kinds) f name v good is) v e line f
       (held_more (length m.kinds) (length n.kinds) f leads.more ready);
@@ -479,7 +479,7 @@ ordering = record {
       body_named (length n.kinds) f p line c) (λ f name s there is. block_named (length n.kinds) f name s there is)
       (λ f is. other (length n.kinds) f _ refl refl refl is) (λ f name t s is. other (length n.kinds) f _ refl refl
       refl is) (λ f line t u is. other (length n.kinds) f _ refl refl refl is)
-      (λ f name types is. method_named (length n.kinds) f name types is) (λ v. is_made (length n.kinds) v ≡ true)
+      (λ v. is_made (length n.kinds) v ≡ true)
       (λ t. made_taken (length n.kinds) t) (λ f name v good is. local_named (length n.kinds) f name v good is)
       (λ f name v good is. attribute_named (length n.kinds) f name v good is) to t v line f
       (held_more (length m.kinds) (length n.kinds) f leads.more ready);
@@ -487,7 +487,7 @@ ordering = record {
       body_named (length n.kinds) f p line c) (λ f name s there is. block_named (length n.kinds) f name s there is)
       (λ f is. other (length n.kinds) f _ refl refl refl is) (λ f name t s is. other (length n.kinds) f _ refl refl
       refl is) (λ f line t u is. other (length n.kinds) f _ refl refl refl is)
-      (λ f name types is. method_named (length n.kinds) f name types is) (λ v. is_made (length n.kinds) v ≡ true)
+      (λ v. is_made (length n.kinds) v ≡ true)
       (λ t. made_taken (length n.kinds) t) (λ f name v good is. local_named (length n.kinds) f name v good is)
       (λ f name v good is. attribute_named (length n.kinds) f name v good is) gs line f
       (held_more (length m.kinds) (length n.kinds) f leads.more ready);
@@ -495,7 +495,7 @@ ordering = record {
       body_named (length m.kinds) f p line c) (λ f name s there is. block_named (length m.kinds) f name s there is)
       (λ f is. other (length m.kinds) f _ refl refl refl is) (λ f name t s is. other (length m.kinds) f _ refl refl
       refl is) (λ f line t u is. other (length m.kinds) f _ refl refl refl is)
-      (λ f name types is. method_named (length m.kinds) f name types is) (λ v. is_made (length m.kinds) v ≡ true)
+      (λ v. is_made (length m.kinds) v ≡ true)
       (λ t. made_taken (length m.kinds) t) (λ f name v good is. local_named (length m.kinds) f name v good is)
       (λ f name v good is. attribute_named (length m.kinds) f name v good is) name s after below line f ready;
   loop_frame = λ o m name n f is. local_named (length m.kinds) f name (value.Int n) (made_int (length m.kinds) n) is;
@@ -503,9 +503,9 @@ ordering = record {
       (λ f p line c. body_named (length m.kinds) f p line c) (λ f name s there is. block_named (length m.kinds) f
       name s there is) (λ f is. other (length m.kinds) f _ refl refl refl is) (λ f name t s is. other
       (length m.kinds) f _ refl refl refl is) (λ f line t u is. other (length m.kinds) f _ refl refl refl is)
-      (λ f name types is. method_named (length m.kinds) f name types is) (λ v. is_made (length m.kinds) v ≡ true)
+      (λ v. is_made (length m.kinds) v ≡ true)
       (λ t. made_taken (length m.kinds) t) (λ f name v good is. local_named (length m.kinds) f name v good is)
-      (λ f name v good is. attribute_named (length m.kinds) f name v good is) name types g line nodes f is;
+      (λ f name v good is. attribute_named (length m.kinds) f name v good is) (λ f name types is. method_named (length m.kinds) f name types is) name types g line nodes f is;
   kept = λ o m fr vs f made is each. (kept_kinds m vs f is, child_made _ (length m.kinds) (last_less m.kinds _));
   fields_none = λ m. tt;
   fields_more = λ m line fs name t is type. any _;

@@ -1,5 +1,5 @@
 -- What is known of a component while it is made: its lists fit, and so does what its names stand for.
-use Rattle.std.proofs.Common.{◌≡◌, ◌∙◌, ◌+◌, ◌≤◌, ◌==◌, ◌||◌, ℕ, Bool, true, false, not, List, [], ◌∷◌, ◌++◌, refl, sym}
+use Rattle.std.proofs.Common.{◌≡◌, ◌∙◌, ◌+◌, ◌≤◌, ◌==◌, ◌&&◌, ◌||◌, ℕ, Bool, true, false, not, List, [], ◌∷◌, ◌++◌, refl, sym}
 use Rattle.std.proofs.Common.{subst, map, ap, ap₂, arith}
 use Rattle.std.specs.Prelude.{Option, Some, None, nat_lt, nat_le, is_some, slice_get}
 use Rattle.std.specs.List.{list_all}
@@ -8,6 +8,7 @@ use Rattle.std.proofs.lemmas.List.{map-append}
 use Rattle.pm_bits.specs.Word.{Word}
 use Rattle.pm_design.specs.declared.body.Block.{Block}
 use Rattle.pm_design.specs.declared.body.BlockSort.{BlockSort}
+use Rattle.pm_design.specs.declared.body.BlockSort.TheVariants as block
 use Rattle.pm_design.specs.declared.connection.Bind.{Bind}
 use Rattle.pm_design.specs.declared.connection.Callee.{Callee}
 use Rattle.pm_design.specs.declared.connection.Join.{Join}
@@ -25,11 +26,15 @@ use Rattle.pm_design.specs.Lookups.{listed}
 use Rattle.pm_design.specs.Widths.{is_width, total}
 use Rattle.pm_values.specs.declared.reference.CallerTypes.{CallerTypes}
 use Rattle.pm_values.specs.declared.reference.ValueType.{ValueType}
+use Rattle.pm_values.specs.declared.value.Taken.TheVariants as taken
 use Rattle.pm_values.specs.declared.value.Value.{Value}
 use Rattle.pm_elab.specs.declared.body.Argument.{Argument}
 use Rattle.pm_elab.specs.declared.body.BodyPlace.{BodyPlace}
+use Rattle.pm_elab.specs.declared.body.BodyPlace.TheVariants as at
 use Rattle.pm_elab.specs.declared.body.Code.{Code}
+use Rattle.pm_elab.specs.declared.body.Code.TheVariants as code
 use Rattle.pm_elab.specs.declared.body.MethodTypes.{MethodTypes}
+use Rattle.pm_elab.specs.declared.body.RawBody.{RawBody}
 use Rattle.pm_elab.specs.declared.class.ConstructedClass.{ConstructedClass}
 use Rattle.pm_elab.specs.declared.class.ConstructedClass.TheVariants as class
 use Rattle.pm_elab.specs.declared.elaboration.RawKind.{RawKind}
@@ -46,7 +51,8 @@ use Rattle.pm_elab_laws.proofs.EqualValues.{both}
 use Rattle.pm_elab_laws.proofs.Fits.{Extends, Keeps, keeps_same, keeps_more, some_more, all_more, all_last, type_fits}
 use Rattle.pm_elab_laws.proofs.Fits.{type_fits_if, shape_fits, part_fits, join_fits, bind_fits, rule_fits, term_fits}
 use Rattle.pm_elab_laws.proofs.Fits.{CallWidths, method_widths, caller_widths, tests, type_more, part_more, term_more}
-use Rattle.pm_elab_laws.proofs.Fits.{join_more, bind_more, rule_more, good_more, type_good_more}
+use Rattle.pm_elab_laws.proofs.Fits.{join_more, bind_more, rule_more, good_more, type_good_more, taken_fits, taken_more}
+use Rattle.pm_elab_laws.proofs.Fits.{type_if_more}
 use Rattle.pm_elab_laws.proofs.FittingValues.{FitsClass}
 use Rattle.pm_elab_laws.proofs.Keeping.{Each}
 use Rattle.pm_elab_laws.proofs.MadeAttributes.{put_each}
@@ -78,6 +84,38 @@ pub record IsLinked (d : Design) (kind : Kind) (joins : List Join) (ties : List 
   pub binds_fit : list_all (bind_fits d kind) binds ≡ true
   pub rules_fit : list_all (rule_fits d kind) rules ≡ true
 
+-- the types of a method are there
+abbrev pub method_fits : Design → MethodTypes → Bool
+method_fits d t = list_all (λ (a : Argument). type_fits d a.ty) t.arguments && type_fits_if d t.result
+
+-- those of a caller port are
+abbrev pub caller_fits : Design → CallerTypes → Bool
+caller_fits d t = type_fits_if d t.argument && type_fits_if d t.result
+
+-- a block that is there and runs in each cycle
+abbrev pub is_update : Option Block → Bool
+is_update None = false
+is_update (Some b) = elim b.sort as (λ _. Bool) [ block.Update ↦ true | block.Once ↦ false | block.Edge ↦ false ]
+
+-- the place of such a block
+abbrev pub at_update : Kind → BodyPlace → Bool
+at_update kind (at.Block n) = is_update (slice_get kind.blocks n)
+at_update kind (at.Method n) = false
+at_update kind (at.Guard n) = false
+
+-- a lambda is an update block that assigns what is there
+abbrev pub code_fits : Design → Kind → BodyPlace → Code → Bool
+code_fits d kind p (code.Lambda r e) = at_update kind p && taken_fits d kind (taken.Signal r)
+code_fits d kind p (code.Statements nodes) = true
+code_fits d kind p (code.Guard e) = true
+
+-- what the bodies of a kind rest on
+pub record IsTyped (d : Design) (kind : Kind) (methods : List MethodTypes) (callers : List CallerTypes)
+    (bodies : List RawBody) : Type 0 where
+  pub methods_fit : list_all (method_fits d) methods ≡ true
+  pub callers_fit : list_all (caller_fits d) callers ≡ true
+  pub bodies_fit : list_all (λ (b : RawBody). code_fits d kind b.place b.code) bodies ≡ true
+
 -- the lists of a kind fit, and the types that were noted have their widths
 pub record IsKept (d : Design) (kind : Kind) (raw : RawKind) : Type 0 where
   pub signals : list_all (signal_fits d) kind.signals ≡ true
@@ -94,6 +132,7 @@ pub record IsKept (d : Design) (kind : Kind) (raw : RawKind) : Type 0 where
   pub links : IsLinked d kind kind.joins kind.ties kind.binds kind.rules
   pub blocks : list_all (λ (b : Block). list_all is_width b.temps) kind.blocks ≡ true
   pub instances : kind.instances ≡ 1 + total (map (instances_at d) kind.children)
+  pub typed : IsTyped d kind raw.methods raw.callers raw.bodies
 
 pub linked_more : (d e : Design) (j k : Kind) (joins : List Join) (ties : List Tie) (binds : List Bind)
     (rules : List Rule) → Extends d e j k
@@ -105,6 +144,42 @@ linked_more d e j k joins ties binds rules grows is = record {
   binds_fit = all_more (bind_fits d j) (bind_fits e k) binds (bind_more d e j k grows) is.binds_fit;
   rules_fit = all_more (rule_fits d j) (rule_fits e k) rules (rule_more d e j k grows) is.rules_fit;
 }
+
+module _ (d e : Design) (j k : Kind) (grows : Extends d e j k) where
+  method_more : (t : MethodTypes) → method_fits d t ≡ true → method_fits e t ≡ true
+  method_more t is =
+      let parts = and_parts (list_all (λ (a : Argument). type_fits d a.ty) t.arguments) (type_fits_if d t.result) is in
+      both (list_all (λ (a : Argument). type_fits e a.ty) t.arguments) (type_fits_if e t.result)
+      (all_more (λ (a : Argument). type_fits d a.ty) (λ (a : Argument). type_fits e a.ty) t.arguments
+      (λ a. type_more d e j k grows a.ty) parts.0) (type_if_more d e j k grows t.result parts.1)
+
+  caller_more : (t : CallerTypes) → caller_fits d t ≡ true → caller_fits e t ≡ true
+  caller_more t is =
+      let parts = and_parts (type_fits_if d t.argument) (type_fits_if d t.result) is in
+      both (type_fits_if e t.argument) (type_fits_if e t.result) (type_if_more d e j k grows t.argument parts.0)
+      (type_if_more d e j k grows t.result parts.1)
+
+  at_update_more : (p : BodyPlace) → at_update j p ≡ true → at_update k p ≡ true
+  at_update_more (at.Block n) is = some_more is_update j.blocks k.blocks n refl grows.blocks is
+  at_update_more (at.Method n) is = is
+  at_update_more (at.Guard n) is = is
+
+  code_more : (p : BodyPlace) (c : Code) → code_fits d j p c ≡ true → code_fits e k p c ≡ true
+  code_more p (code.Lambda r x) is =
+      let parts = and_parts (at_update j p) (taken_fits d j (taken.Signal r)) is in
+      both (at_update k p) (taken_fits e k (taken.Signal r)) (at_update_more p parts.0)
+      (taken_more d e j k grows (taken.Signal r) parts.1)
+  code_more p (code.Statements nodes) is = refl
+  code_more p (code.Guard x) is = refl
+
+  pub typed_more : (methods : List MethodTypes) (callers : List CallerTypes) (bodies : List RawBody)
+      → IsTyped d j methods callers bodies → IsTyped e k methods callers bodies
+  typed_more methods callers bodies is = record {
+    methods_fit = all_more (method_fits d) (method_fits e) methods method_more is.methods_fit;
+    callers_fit = all_more (caller_fits d) (caller_fits e) callers caller_more is.callers_fit;
+    bodies_fit = all_more (λ (b : RawBody). code_fits d j b.place b.code) (λ (b : RawBody). code_fits e k b.place b.code)
+        bodies (λ b. code_more b.place b.code) is.bodies_fit;
+  }
 
 instances_more : (d e : Design) (cs : List Child) → Keeps d.kinds e.kinds → list_all (child_fits d) cs ≡ true
     → map (instances_at d) cs ≡ map (instances_at e) cs
@@ -150,6 +225,7 @@ kept_more d e kind raw kinds shapes is = record {
       is.links;
   blocks = is.blocks;
   instances = is.instances ∙ ap (λ (ns : List ℕ). 1 + total ns) (instances_more d e kind.children kinds is.children);
+  typed = typed_more d e kind kind (extends_made d e kind kinds shapes) raw.methods raw.callers raw.bodies is.typed;
 }
 
 -- ---- frames
@@ -220,8 +296,8 @@ module _ (c : ConstructedClass) (d : Design) where
   }
 
   kept_raw : (kind : Kind) (raw other : RawKind) → raw.states ≡ other.states → raw.methods ≡ other.methods
-      → raw.callers ≡ other.callers → IsKept d kind raw → IsKept d kind other
-  kept_raw kind raw other states methods callers is = record {
+      → raw.callers ≡ other.callers → raw.bodies ≡ other.bodies → IsKept d kind raw → IsKept d kind other
+  kept_raw kind raw other states methods callers bodies is = record {
     signals = is.signals;
     states = is.states;
     state_types = is.state_types ∙ ap (map (λ (t : ValueType). t.width)) states;
@@ -234,6 +310,12 @@ module _ (c : ConstructedClass) (d : Design) where
     links = is.links;
     blocks = is.blocks;
     instances = is.instances;
+    typed = record {
+      methods_fit = subst (λ (ts : List MethodTypes). list_all (method_fits d) ts ≡ true) methods is.typed.methods_fit;
+      callers_fit = subst (λ (ts : List CallerTypes). list_all (caller_fits d) ts ≡ true) callers is.typed.callers_fit;
+      bodies_fit = subst (λ (bs : List RawBody). list_all (λ (b : RawBody). code_fits d kind b.place b.code) bs ≡ true)
+          bodies is.typed.bodies_fit;
+    };
   }
 
   pub signal_grows : (f : Frame) (s : Signal) → Extends d d f.kind (with_signal f s).kind
@@ -303,6 +385,10 @@ module _ (c : ConstructedClass) (d : Design) where
   links_on f g grows is = linked_more d d f.kind g.kind f.kind.joins f.kind.ties f.kind.binds f.kind.rules grows
       is.kept.links
 
+  typed_on : (f g : Frame) → Extends d d f.kind g.kind → IsSound c d f
+      → IsTyped d g.kind f.raw.methods f.raw.callers f.raw.bodies
+  typed_on f g grows is = typed_more d d f.kind g.kind grows f.raw.methods f.raw.callers f.raw.bodies is.kept.typed
+
   pub signal_put : (f : Frame) (s : Signal) → signal_fits d s ≡ true → IsSound c d f → IsSound c d (with_signal f s)
   signal_put f s fits is = other f (with_signal f s) (signal_grows f s) refl refl refl (record {
     signals = all_last (signal_fits d) f.kind.signals s is.kept.signals fits;
@@ -317,6 +403,7 @@ module _ (c : ConstructedClass) (d : Design) where
     links = links_on f (with_signal f s) (signal_grows f s) is;
     blocks = is.kept.blocks;
     instances = is.kept.instances;
+    typed = typed_on f (with_signal f s) (signal_grows f s) is;
   }) is
 
   total_last : (xs : List Child) (x : Child) → total (map (instances_at d) (xs ++ x ∷ [])) ≡ total
@@ -344,6 +431,7 @@ module _ (c : ConstructedClass) (d : Design) where
       all,
       same,
     );
+    typed = typed_on f (with_child f x n) (child_grows f x n) is;
   }) is
 
   width_if_fits : (t : Option ValueType) → type_fits_if d t ≡ true → is_width_or_none (width_if t) ≡ true
@@ -374,19 +462,44 @@ module _ (c : ConstructedClass) (d : Design) where
     links = links_on f (with_caller f name t) (caller_grows f name t) is;
     blocks = is.kept.blocks;
     instances = is.kept.instances;
+    typed = let same = typed_on f (with_caller f name t) (caller_grows f name t) is in record {
+      methods_fit = same.methods_fit;
+      callers_fit = all_last (caller_fits d) f.raw.callers t same.callers_fit
+          (both (type_fits_if d t.argument) (type_fits_if d t.result) first second);
+      bodies_fit = same.bodies_fit;
+    };
   }) is
 
   -- a frame in which nothing but other things has changed
   pub aside : (f g : Frame) → f.class ≡ g.class → f.kind ≡ g.kind → f.raw.attributes ≡ g.raw.attributes
       → f.raw.locals ≡ g.raw.locals → f.raw.states ≡ g.raw.states → f.raw.methods ≡ g.raw.methods
-      → f.raw.callers ≡ g.raw.callers → IsSound c d f → IsSound c d g
-  aside f g same kind attributes locals states methods callers is =
+      → f.raw.callers ≡ g.raw.callers → f.raw.bodies ≡ g.raw.bodies → IsSound c d f → IsSound c d g
+  aside f g same kind attributes locals states methods callers bodies is =
       other f g (subst (λ (k : Kind). Extends d d f.kind k) kind (extends_same f.kind)) same attributes locals
-      (subst (λ (k : Kind). IsKept d k g.raw) kind (kept_raw f.kind f.raw g.raw states methods callers is.kept)) is
+      (subst (λ (k : Kind). IsKept d k g.raw) kind (kept_raw f.kind f.raw g.raw states methods callers bodies is.kept)) is
 
-  pub body_on : (f : Frame) (p : BodyPlace) (line : ℕ) (x : Code) → IsSound c d f → IsSound c d (body_put p line x f)
+  pub body_on : (f : Frame) (p : BodyPlace) (line : ℕ) (x : Code) → code_fits d f.kind p x ≡ true → IsSound c d f
+      → IsSound c d (body_put p line x f)
   unfolding body_put
-  body_on f p line x is = aside f _ refl refl refl refl refl refl refl is
+  body_on f p line x fits is = other f (body_put p line x f) (extends_same f.kind) refl refl refl (record {
+    signals = is.kept.signals;
+    states = is.kept.states;
+    state_types = is.kept.state_types;
+    states_fit = is.kept.states_fit;
+    children = is.kept.children;
+    methods = is.kept.methods;
+    callers = is.kept.callers;
+    method_types = is.kept.method_types;
+    caller_types = is.kept.caller_types;
+    links = is.kept.links;
+    blocks = is.kept.blocks;
+    instances = is.kept.instances;
+    typed = record {
+      methods_fit = is.kept.typed.methods_fit;
+      callers_fit = is.kept.typed.callers_fit;
+      bodies_fit = all_last (λ (b : RawBody). code_fits d f.kind b.place b.code) f.raw.bodies _ is.kept.typed.bodies_fit fits;
+    };
+  }) is
 
   pub block_put_on : (f : Frame) (name : List ℕ) (s : BlockSort) → IsSound c d f → IsSound c d (block_set name s f)
   unfolding block_set
@@ -403,6 +516,7 @@ module _ (c : ConstructedClass) (d : Design) where
     links = links_on f (block_set name s f) (block_grows f name s) is;
     blocks = all_last (λ (b : Block). list_all is_width b.temps) f.kind.blocks _ is.kept.blocks refl;
     instances = is.kept.instances;
+    typed = typed_on f (block_set name s f) (block_grows f name s) is;
   }) is
 
   pub state_put_on : (f : Frame) (name : List ℕ) (t : ValueType) (s : Start) → type_fits d t ≡ true → s.maxlen ≤ 64
@@ -426,6 +540,8 @@ module _ (c : ConstructedClass) (d : Design) where
             refl refl (keeps_more f.kind.states _)) is;
         blocks = is.kept.blocks;
         instances = is.kept.instances;
+        typed = typed_on f (with_state f name t s) (extends_lists f.kind (with_state f name t s).kind refl refl refl
+            refl refl (keeps_more f.kind.states _)) is;
       }) is
     where
       by : (b : Bool) → (b || s.value.width == t.width) ≡ true
@@ -442,6 +558,11 @@ module _ (c : ConstructedClass) (d : Design) where
   argument_fits [] each = refl
   argument_fits (x ∷ xs) each = both (is_width x.ty.width) _ (and_parts (is_width x.ty.width) (shape_fits d
       x.ty.width x.ty.shape) each.0).0 (argument_fits xs each.1)
+
+  arguments_fit : (xs : List Argument) → Each (λ (a : Argument). type_fits d a.ty ≡ true) xs
+      → list_all (λ (a : Argument). type_fits d a.ty) xs ≡ true
+  arguments_fit [] each = refl
+  arguments_fit (x ∷ xs) each = both (type_fits d x.ty) _ each.0 (arguments_fit xs each.1)
 
   pub method_put_on : (f : Frame) (name : List ℕ) (t : MethodTypes)
       → Each (λ (a : Argument). type_fits d a.ty ≡ true) t.arguments → type_fits_if d t.result ≡ true
@@ -466,6 +587,13 @@ module _ (c : ConstructedClass) (d : Design) where
         links = links_on f (method_added name t f) (method_grows f name t) is;
         blocks = is.kept.blocks;
         instances = is.kept.instances;
+        typed = let same = typed_on f (method_added name t f) (method_grows f name t) is in record {
+          methods_fit = all_last (method_fits d) f.raw.methods t same.methods_fit
+              (both (list_all (λ (a : Argument). type_fits d a.ty) t.arguments) (type_fits_if d t.result)
+              (arguments_fit t.arguments first) second);
+          callers_fit = same.callers_fit;
+          bodies_fit = same.bodies_fit;
+        };
       }) is
 
   -- other connections and constraints
@@ -492,6 +620,7 @@ module _ (c : ConstructedClass) (d : Design) where
         blocks = ap (list_all (λ (b : Block). list_all is_width b.temps)) blocks ∙ is.kept.blocks;
         instances = instances ∙ (is.kept.instances ∙ ap (λ (cs : List Child). 1 + total (map (instances_at d) cs))
             (sym children));
+        typed = subst (λ (r : RawKind). IsTyped d g.kind r.methods r.callers r.bodies) raw (typed_on f g grows is);
       }) is
 
   pub rule_put_on : (f : Frame) (line : ℕ) (t u : Term) → term_fits d f.kind t ≡ true → term_fits d f.kind u ≡ true
@@ -570,14 +699,14 @@ module _ (c : ConstructedClass) (d : Design) where
       refl refl (keeps_same f.kind.states)) refl refl refl refl refl refl refl links is
 
   pub lambda_more_on : (f : Frame) → IsSound c d f → IsSound c d (one_lambda_more f)
-  lambda_more_on f is = aside f _ refl refl refl refl refl refl refl is
+  lambda_more_on f is = aside f _ refl refl refl refl refl refl refl refl is
 
   pub local_put_on : (f : Frame) (name : List ℕ) (v : Value) → Good (tests d f.kind) free v → IsSound c d f
       → IsSound c d (local_put name v f)
   unfolding local_put
   local_put_on f name v good is = record {
     sort = is.sort;
-    kept = kept_raw f.kind f.raw _ refl refl refl is.kept;
+    kept = kept_raw f.kind f.raw _ refl refl refl refl is.kept;
     attributes = is.attributes;
     locals = put_each (λ (l : Local). Good (tests d f.kind) free l.value) f.raw.locals name _ is.locals good;
   }
@@ -587,7 +716,7 @@ module _ (c : ConstructedClass) (d : Design) where
   unfolding attribute_set
   attribute_put_on f name v good is = record {
     sort = is.sort;
-    kept = kept_raw f.kind f.raw _ refl refl refl is.kept;
+    kept = kept_raw f.kind f.raw _ refl refl refl refl is.kept;
     attributes = put_each (FitsClass f.class d f.kind) f.raw.attributes name v is.attributes good;
     locals = is.locals;
   }

@@ -35,4 +35,5 @@ pub mod Sounding
 pub mod Given
 pub mod SignalNames
 pub mod WellBuilt
+pub mod Untyped
 pub mod ChildKinds

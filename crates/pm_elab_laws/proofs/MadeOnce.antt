@@ -209,7 +209,7 @@ naming = record {
   assigned_frame = λ o m n to v line f leads fine ready aimed is.
       assigned_on (IsOf o) (λ f p line c. body_named o.name f p line c) (λ f name s other is. block_named o.name f
       name s is) (λ f is. is) (λ f name t s is. is) (λ f line t u is. is)
-      (λ f name types is. method_named o.name f name types is) (λ v. Nothing) (λ t. tt) (λ f name v good is.
+      (λ v. Nothing) (λ t. tt) (λ f name v good is.
       local_named o.name f name v is) (λ f name v good is. attribute_named o.name f name v is)
       n.kinds line (λ v at f good is. placed o.name _ f (places (framing o.name) n.kinds line (news o.name n.kinds
       line) v at f (fine_named o.name f is) (good_named o.name f v))) to v f tt ready;
@@ -219,31 +219,31 @@ naming = record {
   lambda_frame = λ o m n v e line f leads ready is.
       lambda_on (IsOf o) (λ f p line c. body_named o.name f p line c) (λ f name s other is. block_named o.name f
       name s is) (λ f is. is) (λ f name t s is. is) (λ f line t u is. is)
-      (λ f name types is. method_named o.name f name types is) (λ v. Nothing) (λ t. tt) (λ f name v good is.
+      (λ v. Nothing) (λ t. tt) (λ f name v good is.
       local_named o.name f name v is) (λ f name v good is. attribute_named o.name f name v is) v e line f ready;
   state_frame = λ o m n to t v line f leads ready aimed type is.
       state_on (IsOf o) (λ f p line c. body_named o.name f p line c) (λ f name s other is. block_named o.name f name
       s is) (λ f is. is) (λ f name t s is. is) (λ f line t u is. is)
-      (λ f name types is. method_named o.name f name types is) (λ v. Nothing) (λ t. tt) (λ f name v good is.
+      (λ v. Nothing) (λ t. tt) (λ f name v good is.
       local_named o.name f name v is) (λ f name v good is. attribute_named o.name f name v is) to t v line f
       ready;
   constrained_frame = λ o m n gs line f leads ready each.
       constrained_on (IsOf o) (λ f p line c. body_named o.name f p line c) (λ f name s other is. block_named o.name
       f name s is) (λ f is. is) (λ f name t s is. is) (λ f line t u is. is)
-      (λ f name types is. method_named o.name f name types is) (λ v. Nothing) (λ t. tt) (λ f name v good is.
+      (λ v. Nothing) (λ t. tt) (λ f name v good is.
       local_named o.name f name v is) (λ f name v good is. attribute_named o.name f name v is) gs line f ready;
   block_frame = λ o m name s after below line f ready names.
       block_on (IsOf o) (λ f p line c. body_named o.name f p line c) (λ f name s other is. block_named o.name f name
       s is) (λ f is. is) (λ f name t s is. is) (λ f line t u is. is)
-      (λ f name types is. method_named o.name f name types is) (λ v. Nothing) (λ t. tt) (λ f name v good is.
+      (λ v. Nothing) (λ t. tt) (λ f name v good is.
       local_named o.name f name v is) (λ f name v good is. attribute_named o.name f name v is) name s after
       below line f ready;
   loop_frame = λ o m name n f is. local_named o.name f name (value.Int n) is;
   method_frame = λ o m name types g line nodes f made is names arguments result.
       method_on (IsOf o) (λ f p line c. body_named o.name f p line c) (λ f name s other is. block_named o.name f
       name s is) (λ f is. is) (λ f name t s is. is) (λ f line t u is. is)
-      (λ f name types is. method_named o.name f name types is) (λ v. Nothing) (λ t. tt) (λ f name v good is.
-      local_named o.name f name v is) (λ f name v good is. attribute_named o.name f name v is) name types g line
+      (λ v. Nothing) (λ t. tt) (λ f name v good is.
+      local_named o.name f name v is) (λ f name v good is. attribute_named o.name f name v is) (λ f name types is. method_named o.name f name types is) name types g line
       nodes f is;
   kept = λ o m fr vs f made is each. (
     record {

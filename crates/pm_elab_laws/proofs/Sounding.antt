@@ -39,6 +39,7 @@ use Rattle.pm_values.specs.declared.fault.BuildFault.TheVariants.{WrongKind, Sam
 use Rattle.pm_values.specs.declared.reference.ValueType.{ValueType}
 use Rattle.pm_values.specs.declared.value.Member.{Member}
 use Rattle.pm_values.specs.declared.value.New.TheVariants as new
+use Rattle.pm_values.specs.declared.reference.Reference.{Reference}
 use Rattle.pm_values.specs.declared.value.Taken.TheVariants as taken
 use Rattle.pm_values.specs.declared.value.Value.{Value, Value-F, out-Value, roll-Value, roll-out-Value}
 use Rattle.pm_values.specs.declared.value.Value.TheVariants as value
@@ -81,7 +82,8 @@ use Rattle.pm_elab_laws.proofs.ChildKinds.{kinds_found}
 use Rattle.pm_elab_laws.proofs.EqualValues.{both}
 use Rattle.pm_elab_laws.proofs.Fits.{Extends, Keeps, method_widths, keeps_same, keeps_more, all_more, all_last}
 use Rattle.pm_elab_laws.proofs.Fits.{has_width, shape_fits, type_fits, type_fits_if, term_fits, tests, type_tests}
-use Rattle.pm_elab_laws.proofs.Fits.{shape_more, type_more, good_more, type_good_more, type_good_here}
+use Rattle.pm_elab_laws.proofs.Fits.{shape_more, type_more, good_more, type_good_more, type_good_here, taken_fits}
+use Rattle.pm_elab_laws.proofs.Fits.{taken_more}
 use Rattle.pm_elab_laws.proofs.FittingValues.{design_made, kind_in, field_fits, shape_is_good, FitsClass, fits_int}
 use Rattle.pm_elab_laws.proofs.FittingValues.{element_fits, part_of_fits, called_fits, type_in_fits, attribute_fits}
 use Rattle.pm_elab_laws.proofs.FittingValues.{block_fits, named_type_fits, signals_new}
@@ -102,6 +104,7 @@ use Rattle.pm_elab_laws.proofs.Constructs.{IsKind}
 use Rattle.pm_elab_laws.proofs.Files.{AreGlobals, build_runs, globals_run}
 use Rattle.pm_elab_laws.proofs.Kept.{IsSound, extends_made, kept_more, sound_more, body_on, block_put_on, state_put_on}
 use Rattle.pm_elab_laws.proofs.Kept.{method_put_on, rule_put_on, lambda_more_on, local_put_on, attribute_put_on}
+use Rattle.pm_elab_laws.proofs.Kept.{block_grows, code_fits, is_update}
 use Rattle.pm_elab_laws.proofs.MadeAttributes.{get_each, put_each}
 use Rattle.pm_elab_laws.proofs.Moves.{lower, plain_free, held_element, fresh_element, plain_good, fresh_good}
 use Rattle.pm_elab_laws.proofs.Moves.{element_good}
@@ -146,33 +149,45 @@ module _ (c : ConstructedClass) (d : Design) where
       attribute_put_on c d f name v (subst (λ (s : ConstructedClass). FitsClass s d f.kind v)
       (sym (is.sort ∙ component)) good) is
 
-  put_on : (name : List ℕ) (s : BlockSort) (line : ℕ) (x : Code) (f : Frame) → Sound f
+  put_on : (name : List ℕ) (s : BlockSort) (line : ℕ) (x : Code) (f : Frame)
+      → code_fits d (block_set name s f).kind (at.Block (length f.kind.blocks)) x ≡ true → Sound f
       → On (block_put name s line x f) Sound
   unfolding block_put
-  put_on name s line x f is = unless_so Sound (has_block f name) (SameName line)
+  put_on name s line x f fits is = unless_so Sound (has_block f name) (SameName line)
       (Ok (body_put (at.Block (length f.kind.blocks)) line x (block_set name s f)))
-      (body_on c d (block_set name s f) _ line x (block_put_on c d f name s is))
+      (body_on c d (block_set name s f) _ line x fits (block_put_on c d f name s is))
 
   -- a block
   block_sound : (name : List ℕ) (s : BlockSort) (after : Option Stmt) (below : List Node) (line : ℕ) (f : Frame)
       → Sound f → On (block_def name s after below line f) Sound
   unfolding block_def
   block_sound name s after below line f is = in_either Sound f.class line _ (put_on name s line (code.Statements
-      (body_nodes after below line)) f is)
+      (body_nodes after below line)) f refl is)
 
-  lambda_at_on : (e : Expr) (line : ℕ) (f : Frame) (v : Value-F Value Member) → Sound f
-      → On (lambda_at e line f v) Sound
+  -- an update block that assigns what is there
+  lambda_fits : (f : Frame) (name : List ℕ) (r : Reference) (e : Expr) → taken_fits d f.kind (taken.Signal r) ≡ true
+      → code_fits d (block_set name block.Update f).kind (at.Block (length f.kind.blocks)) (code.Lambda r e) ≡ true
+  unfolding block_set
+  lambda_fits f name r e fits =
+      both (is_update (slice_get (block_set name block.Update f).kind.blocks (length f.kind.blocks))) _
+      (ap is_update (last_there f.kind.blocks _))
+      (taken_more d d f.kind (block_set name block.Update f).kind (block_grows c d f name block.Update) (taken.Signal r) fits)
+
+  lambda_at_on : (e : Expr) (line : ℕ) (f : Frame) (v : Value-F Value Member) → GoodLayer (tests d f.kind) free v
+      → Sound f → On (lambda_at e line f v) Sound
   unfolding lambda_put
-  lambda_at_on e line f (Value-F.Taken (taken.Signal r)) is =
+  lambda_at_on e line f (Value-F.Taken (taken.Signal r)) good is =
       chain Sound Sound (block_put (lambda_name f.lambdas) block.Update line (code.Lambda r e) f) _
-      (put_on (lambda_name f.lambdas) block.Update line (code.Lambda r e) f is) (λ g more. lambda_more_on c d g
-      more)
-  lambda_at_on e line f _ is = tt
+      (put_on (lambda_name f.lambdas) block.Update line (code.Lambda r e) f (lambda_fits f (lambda_name f.lambdas) r e
+      good) is) (λ g more. lambda_more_on c d g more)
+  lambda_at_on e line f _ good is = tt
 
   -- a lambda
-  lambda_sound : (v : Value) (e : Expr) (line : ℕ) (f : Frame) → Sound f → On (lambda_block v e line f) Sound
+  lambda_sound : (v : Value) (e : Expr) (line : ℕ) (f : Frame) → Good (tests d f.kind) free v → Sound f
+      → On (lambda_block v e line f) Sound
   unfolding lambda_block
-  lambda_sound v e line f is = in_either Sound f.class line _ (lambda_at_on e line f (out-Value v) is)
+  lambda_sound v e line f good is = in_either Sound f.class line _ (lambda_at_on e line f (out-Value v)
+      (opened_value (tests d f.kind) v free good) is)
 
   -- ---- state
 
@@ -276,7 +291,7 @@ module _ (c : ConstructedClass) (d : Design) where
   guard_on : (n : ℕ) (g : Option GuardLine) (f : Frame) → Sound f → Sound (guard_put n g f)
   unfolding guard_put
   guard_on n None f is = is
-  guard_on n (Some g) f is = body_on c d f (at.Guard n) g.line (code.Guard g.condition) is
+  guard_on n (Some g) f is = body_on c d f (at.Guard n) g.line (code.Guard g.condition) refl is
 
   -- a method
   method_sound : (name : List ℕ) (t : MethodTypes) (g : Option GuardLine) (line : ℕ) (nodes : List Node) (f : Frame)
@@ -286,7 +301,7 @@ module _ (c : ConstructedClass) (d : Design) where
   unfolding method_put method_set named_method method_added
   method_sound name t g line nodes f component first second is = unless_so Sound (is_used f name) (SameName line)
       (Ok (method_set name t g line nodes f))
-      (body_on c d _ (at.Method (length f.kind.methods)) line (code.Statements nodes)
+      (body_on c d _ (at.Method (length f.kind.methods)) line (code.Statements nodes) refl
       (guard_on (length f.kind.methods) g _
       (held_put (method_added name t f) name _ component
       (closed (tests d (method_added name t f).kind) (Value-F.Taken (taken.Method
@@ -638,6 +653,7 @@ component_sound d name ps vs each = record {
     links = record { joins_fit = refl; ties_fit = refl; binds_fit = refl; rules_fit = refl };
     blocks = refl;
     instances = refl;
+    typed = record { methods_fit = refl; callers_fit = refl; bodies_fit = refl };
   };
   attributes = (
     closed (tests d (component_start name ps vs).kind) (Value-F.Taken _) _ held (value.rolls-Taken _)
@@ -665,6 +681,7 @@ interface_sound d name ps vs each = record {
     links = record { joins_fit = refl; ties_fit = refl; binds_fit = refl; rules_fit = refl };
     blocks = refl;
     instances = refl;
+    typed = record { methods_fit = refl; callers_fit = refl; bodies_fit = refl };
   };
   attributes = tt;
   locals = locals_sound d (interface_start name ps vs).kind ps vs [] tt each;
@@ -1069,7 +1086,7 @@ sounding = record {
       ready.sound)) (connected_named_on n.kinds line a b f ready.named)
       (step_kept o m n f _ leads ready (λ x y z sized. connected_sized x y z n.kinds line a b f sized));
   lambda_frame = λ o m n v e line f leads ready is. wholly o n (lambda_block v e line f)
-      (lambda_sound o.class (design_made n) v e line f (frame_more o.class m n f leads ready.sound))
+      (lambda_sound o.class (design_made n) v e line f is.0 (frame_more o.class m n f leads ready.sound))
       (lambda_named_on v e line f ready.named)
       (block_more o m n f _ leads ready (λ x y z sized. lambda_sized x y z v e line f sized));
   state_frame = λ o m n to t v line f leads ready aimed type is. wholly o n (state_put to t v line f)

@@ -317,7 +317,7 @@ building = record {
       assigned_on (IsBuilt o) (λ f p line c. body_named o f p line c) (λ f name s there is. block_named o f name s
       there is) (λ f is. other o f _ refl refl refl refl is) (λ f name t s is. other o f _ refl refl refl refl
       is) (λ f line t u is. other o f _ refl refl refl refl is)
-      (λ f name types is. method_named o f name types is) (λ v. Nothing) (λ t. tt) (λ f name v good is. local_named
+      (λ v. Nothing) (λ t. tt) (λ f name v good is. local_named
       o f name v is) (λ f name v good is. attribute_named o f name v is)
       n.kinds line (λ v at f good is. placed o _ f (places (framing o) n.kinds line (news o n.kinds line) v at f
       (fine_named o f is) (good_named o f v))) to v f tt ready;
@@ -329,33 +329,33 @@ building = record {
       lambda_on (IsBuilt o) (λ f p line c. body_named o f p line c) (λ f name s there is. block_named o f name s
       there is) (λ f is. other o f _ refl refl refl refl is) (λ f name t s is. other o f _ refl refl refl refl
       is) (λ f line t u is. other o f _ refl refl refl refl is)
-      (λ f name types is. method_named o f name types is) (λ v. Nothing) (λ t. tt) (λ f name v good is. local_named
+      (λ v. Nothing) (λ t. tt) (λ f name v good is. local_named
       o f name v is) (λ f name v good is. attribute_named o f name v is) v e line f ready;
   state_frame = λ o m n to t v line f leads ready aimed type is.
       state_on (IsBuilt o) (λ f p line c. body_named o f p line c) (λ f name s there is. block_named o f name s
       there is) (λ f is. other o f _ refl refl refl refl is) (λ f name t s is. other o f _ refl refl refl refl
       is) (λ f line t u is. other o f _ refl refl refl refl is)
-      (λ f name types is. method_named o f name types is) (λ v. Nothing) (λ t. tt) (λ f name v good is. local_named
+      (λ v. Nothing) (λ t. tt) (λ f name v good is. local_named
       o f name v is) (λ f name v good is. attribute_named o f name v is) to t v line f ready;
   constrained_frame = λ o m n gs line f leads ready each.
       constrained_on (IsBuilt o) (λ f p line c. body_named o f p line c) (λ f name s there is. block_named o f name
       s there is) (λ f is. other o f _ refl refl refl refl is) (λ f name t s is. other o f _ refl refl refl refl
       is) (λ f line t u is. other o f _ refl refl refl refl is)
-      (λ f name types is. method_named o f name types is) (λ v. Nothing) (λ t. tt) (λ f name v good is. local_named
+      (λ v. Nothing) (λ t. tt) (λ f name v good is. local_named
       o f name v is) (λ f name v good is. attribute_named o f name v is) gs line f ready;
   block_frame = λ o m name s after below line f ready names.
       block_on (IsBuilt o) (λ f p line c. body_named o f p line c) (λ f name s there is. block_named o f name s
       there is) (λ f is. other o f _ refl refl refl refl is) (λ f name t s is. other o f _ refl refl refl refl
       is) (λ f line t u is. other o f _ refl refl refl refl is)
-      (λ f name types is. method_named o f name types is) (λ v. Nothing) (λ t. tt) (λ f name v good is. local_named
+      (λ v. Nothing) (λ t. tt) (λ f name v good is. local_named
       o f name v is) (λ f name v good is. attribute_named o f name v is) name s after below line f ready;
   loop_frame = λ o m name n f is. local_named o f name (value.Int n) is;
   method_frame = λ o m name types g line nodes f made is names arguments result.
       method_on (IsBuilt o) (λ f p line c. body_named o f p line c) (λ f name s there is. block_named o f name s
       there is) (λ f is. other o f _ refl refl refl refl is) (λ f name t s is. other o f _ refl refl refl refl
       is) (λ f line t u is. other o f _ refl refl refl refl is)
-      (λ f name types is. method_named o f name types is) (λ v. Nothing) (λ t. tt) (λ f name v good is. local_named
-      o f name v is) (λ f name v good is. attribute_named o f name v is) name types g line nodes f is;
+      (λ v. Nothing) (λ t. tt) (λ f name v good is. local_named
+      o f name v is) (λ f name v good is. attribute_named o f name v is) (λ f name types is. method_named o f name types is) name types g line nodes f is;
   kept = λ o m fr vs f made is each. (
     λ fine. each_more (λ (k : MadeKind). IsComponent k.kind) m.kinds _ fine
         (finished_kind o f made is, tt),

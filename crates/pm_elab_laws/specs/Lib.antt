@@ -1,3 +1,4 @@
+pub mod Bodies
 pub mod Children
 pub mod Components
 pub mod Kinds

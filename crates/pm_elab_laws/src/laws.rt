@@ -1,4 +1,5 @@
 //! Laws of elaboration, each proved once: no code calls them.
+ghost use Rattle.pm_elab_laws.specs.Bodies.{KindsAreUntyped};
 ghost use Rattle.pm_elab_laws.specs.Children.{ChildrenStandBefore};
 ghost use Rattle.pm_elab_laws.specs.Components.{KindsAreComponents};
 ghost use Rattle.pm_elab_laws.specs.Kinds.{KindsAreMadeOnce};
@@ -43,6 +44,12 @@ pub fn children_stand_before()
 /// and each type from the command line has 1 to 128 bits.
 pub fn designs_are_sound()
     ensures { DesignsAreSound }
+{}
+
+/// In a design that is given, blocks have no statements and methods no guards yet, and the lines of each method are among
+/// the bodies that are to be typed.
+pub fn kinds_are_untyped()
+    ensures { KindsAreUntyped }
 {}
 
 /// In a design that is given, the names of a kind's signals differ, under the same conditions.
