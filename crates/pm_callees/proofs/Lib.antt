@@ -1,0 +1,9 @@
+pub mod Placing
+pub mod EndNumbers
+pub mod There
+pub mod LinkLists
+pub mod Numbered
+pub mod Counting
+pub mod SiteNumbers
+pub mod Searching
+pub mod Verdicts

@@ -1,0 +1,59 @@
+use Rattle.std.proofs.Common.{◌∙◌, ◌<◌, ◌^◌, ◌+◌, ◌*◌, List, ℕ, ap, arith, get_or, length, rules, subst, sym}
+use Rattle.pm_design.specs.declared.design.Kind.{Kind}
+use Rattle.pm_callees.proofs.Placing.{first_within}
+use Rattle.pm_callees.proofs.SiteNumbers.{few_ends, port_bound, port_value}
+use Rattle.pm_callees.proofs.site.port_number.Goals as goal
+
+pub overflow_cast-methods : goal.overflow_cast-methods
+overflow_cast-methods c =
+    let few = few_ends c.args.design.now c.args.site.now c.requires.site c.args.i c.requires.there.0 in
+    let same = ap (λ (k : Kind). length k.methods) c.instance_kind.ensures in
+    let count = c.len-methods.ensures in
+    let all : c.args.site.now.count < 2 ^ 32 = c.requires.site.few in
+    let low : c.len-methods.result < 2 ^ 32 = omega arith in
+    search (rules, low)
+
+pub bounds-as_slice-i : goal.bounds-as_slice-i
+bounds-as_slice-i c =
+    subst (λ (l : List ℕ). c.args.i < length l) (sym c.as_slice.ensures)
+    (first_within c.args.design.now c.args.site.now c.requires.site c.args.i c.requires.there.0)
+
+pub offset_bounds-as_slice-i : goal.offset_bounds-as_slice-i
+offset_bounds-as_slice-i c =
+    let lt : c.args.i < length c.as_slice.result.now =
+    subst (λ (l : List ℕ). c.args.i < length l) (sym c.as_slice.ensures)
+    (first_within c.args.design.now c.args.site.now c.requires.site c.args.i c.requires.there.0) in
+    let size : length c.as_slice.result.now * 4 < 2 ^ 63 = c.as_slice.type_inv.1 in
+    let fits : c.args.i * 4 < 2 ^ 64 = omega arith in
+    search (rules, fits)
+
+pub overflow_add-result : goal.overflow_add-result
+overflow_add-result c =
+    let low = port_bound c.args.design.now c.args.site.now c.requires.site c.args.i c.len-methods.result c.args.port
+    (c.len-methods.ensures ∙ ap (λ (k : Kind). length k.methods) c.instance_kind.ensures) c.requires.there in
+    let few : c.args.site.now.count < 2 ^ 32 = c.requires.site.few in
+    let same = ap (λ (l : List ℕ). get_or l c.args.i 0) c.as_slice.ensures in
+    let fits : get_or c.as_slice.result.now c.args.i 0 + c.len-methods.result < 2 ^ 32 = omega arith in
+    search (rules, fits)
+
+pub overflow_add-result-2 : goal.overflow_add-result-2
+overflow_add-result-2 c =
+    let low = port_bound c.args.design.now c.args.site.now c.requires.site c.args.i c.len-methods.result c.args.port
+    (c.len-methods.ensures ∙ ap (λ (k : Kind). length k.methods) c.instance_kind.ensures) c.requires.there in
+    let few : c.args.site.now.count < 2 ^ 32 = c.requires.site.few in
+    let same = ap (λ (l : List ℕ). get_or l c.args.i 0) c.as_slice.ensures in
+    let fits : get_or c.as_slice.result.now c.args.i 0 + c.len-methods.result + c.args.port < 2 ^ 32 = omega arith in
+    search (rules, fits)
+
+pub returns-clause-value : goal.returns-clause-value
+returns-clause-value c =
+    ap (λ (l : List ℕ). get_or l c.args.i 0 + c.len-methods.result + c.args.port) c.as_slice.ensures
+    ∙ port_value c.args.design.now c.args.site.now c.requires.site c.args.i c.len-methods.result c.args.port
+    (c.len-methods.ensures ∙ ap (λ (k : Kind). length k.methods) c.instance_kind.ensures) c.requires.there
+
+pub returns-clause-bound : goal.returns-clause-bound
+returns-clause-bound c =
+    subst (λ (l : List ℕ). get_or l c.args.i 0 + c.len-methods.result + c.args.port < c.args.site.now.count)
+    (sym c.as_slice.ensures)
+    (port_bound c.args.design.now c.args.site.now c.requires.site c.args.i c.len-methods.result c.args.port
+    (c.len-methods.ensures ∙ ap (λ (k : Kind). length k.methods) c.instance_kind.ensures) c.requires.there)
