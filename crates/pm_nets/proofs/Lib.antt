@@ -15,3 +15,4 @@ pub mod Ending
 pub mod GiverLists
 pub mod GiftLists
 pub mod DoubleBits
+pub mod Accepting

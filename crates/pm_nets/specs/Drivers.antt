@@ -64,9 +64,13 @@ pub record IsLeastUndriven (plan : Plan) (x : ℕ) : Type 0 where
   pub undriven : IsUndriven plan x
   pub least : (y : ℕ) → IsUndriven plan y → x ≤ y
 
+-- each flat bit that is of one net with another one has a driver
+abbrev pub HasNoUndriven : Plan → Type 0
+HasNoUndriven plan = (x : ℕ) → IsUndriven plan x → ⊥
+
 -- the least undriven flat bit, if any
 abbrev pub FindsUndriven : Plan → Option ℕ → Type 0
-FindsUndriven plan None = (x : ℕ) → IsUndriven plan x → ⊥
+FindsUndriven plan None = HasNoUndriven plan
 FindsUndriven plan (Some x) = IsLeastUndriven plan x
 
 -- a mark at the least bit of each set that has a driver

@@ -100,14 +100,18 @@ pub record IsLeastDouble (plan : Plan) (x : ℕ) : Type 0 where
   pub double : IsDouble plan x
   pub least : (y : ℕ) → IsDouble plan y → x ≤ y
 
+-- no net of a component has two givers
+abbrev pub HasNoDouble : Plan → Type 0
+HasNoDouble plan = (x : ℕ) → IsDouble plan x → ⊥
+
 -- the least of them, if any
 abbrev pub FindsDouble : Plan → Option ℕ → Type 0
-FindsDouble plan None = (x : ℕ) → IsDouble plan x → ⊥
+FindsDouble plan None = HasNoDouble plan
 FindsDouble plan (Some x) = IsLeastDouble plan x
 
 -- the name of the least of them, if any
 abbrev pub NamesDouble : Plan → Option SignalBit → Type 0
-NamesDouble plan None = (x : ℕ) → IsDouble plan x → ⊥
+NamesDouble plan None = HasNoDouble plan
 NamesDouble plan (Some named) = (x : ℕ) × IsLeastDouble plan x × IsBitOf plan x named
 
 -- two that differ give to sets of one least number

@@ -7,7 +7,7 @@ use Rattle.pm_design.specs.Layout.{instance_of}
 use Rattle.pm_design.specs.Lookups.{no_signal}
 use Rattle.pm_design.specs.Runnable.{kind_at}
 use Rattle.pm_nets.specs.declared.naming.SignalBit.{SignalBit}
-use Rattle.pm_nets.specs.Drivers.{IsLeastUndriven, IsUndriven}
+use Rattle.pm_nets.specs.Drivers.{HasNoUndriven, IsLeastUndriven}
 
 -- a signal of an instance's kind
 abbrev pub signal_at : Plan → ℕ → ℕ → Signal
@@ -25,5 +25,5 @@ pub record IsBitOf (plan : Plan) (x : ℕ) (named : SignalBit) : Type 0 where
 
 -- the name of the least undriven flat bit, if any
 abbrev pub NamesUndriven : Plan → Option SignalBit → Type 0
-NamesUndriven plan None = (x : ℕ) → IsUndriven plan x → ⊥
+NamesUndriven plan None = HasNoUndriven plan
 NamesUndriven plan (Some named) = (x : ℕ) × IsLeastUndriven plan x × IsBitOf plan x named

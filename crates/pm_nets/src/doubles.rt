@@ -3,13 +3,13 @@ ghost use Rattle.std.specs.Prelude.{◌≡◌, ◌*◌, ◌<◌, ◌≤◌, [], 
 ghost use Rattle.pm_design.specs.Instances.{flat_bits as flat_bits_of};
 ghost use Rattle.pm_design.specs.Sound.{IsSound};
 ghost use Rattle.pm_instances.specs.Laid.{laid_out};
-ghost use Rattle.pm_nets.specs.Answers.{IsSmall};
-ghost use Rattle.pm_nets.specs.Givers.{AreGiven, FindsDouble, Gives, NamesDouble, givers_in, givers_of};
+ghost use Rattle.pm_nets.specs.Answers.{Answers, IsMatched, IsPlaced, IsSingle, IsSmall};
+ghost use Rattle.pm_nets.specs.Givers.{AreGiven, FindsDouble, Gives, givers_in, givers_of};
 ghost use Rattle.pm_nets.specs.Sites.{IsSite};
 
-use crate::connecting::site_of;
 use crate::drivers::instance_kind;
 use crate::ends::join_all_ends;
+use crate::fault::NetFault;
 use crate::gifts::gifts;
 use crate::giver::Giver;
 use crate::giving::give_gifts;
@@ -92,19 +92,20 @@ pub(crate) fn least_double(
     }
 }
 
-/// The least flat bit of a net of a component to which two or more give, or `None` if there is no such net. Givers are
-/// the bits of the component's inputs and of its children's outputs, each bit of a tie, and each bit that a block may
+/// Refuses a net of a component to which two or more give: it names the least flat bit of such a net. Givers are the
+/// bits of the component's inputs and of its children's outputs, each bit of a tie, and each bit that a block may
 /// write. So a tie of two joined bits gives twice. The nets of a component are those of its own connections alone.
-///
-/// Requires a sound design of at most 2^18 flat bits. It fails only when memory runs out.
-pub fn doubly_driven(alloc: Global, design: &Design) -> Result<Option<SignalBit>, NoMemory>
+pub(crate) fn refuse_doubles(alloc: Global, design: &Design, site: &Site) -> Result<(), NetFault>
     requires design { IsSound design.now }
-    requires small { IsSmall design.now }
-    ensures { IfOk result (λ found. NamesDouble (laid_out design.now) found) }
+    requires site { IsPlaced design.now site.now }
+    requires matched { IsMatched design.now }
+    ensures { Answers design.now (λ _. IsSingle design.now) result }
 {
-    let site = site_of(alloc, design)?;
-    match least_double(alloc, design, &site)? {
-        None => Ok(None),
-        Some(flat) => Ok(Some(name_bit(alloc, design, &site, flat)?)),
+    match least_double(alloc, design, site)? {
+        None => Ok(()),
+        Some(flat) => {
+            let SignalBit { signal, bit } = name_bit(alloc, design, site, flat)?;
+            Err(NetFault::MultiWriter(signal, bit))
+        }
     }
 }

@@ -4,21 +4,18 @@ ghost use Rattle.disjoint_sets.specs.Partitions.{IsPartition};
 ghost use Rattle.pm_design.specs.Instances.{flat_bits as flat_bits_of};
 ghost use Rattle.pm_design.specs.Sound.{IsSound};
 ghost use Rattle.pm_instances.specs.Laid.{laid_out};
-ghost use Rattle.pm_nets.specs.Answers.{IsSmall};
+ghost use Rattle.pm_nets.specs.Answers.{Answers, IsDriven, IsPlaced, IsSingle, IsSmall};
 ghost use Rattle.pm_nets.specs.Drivers.{FindsUndriven, IsFirstBelow};
 ghost use Rattle.pm_nets.specs.Links.{links_of};
-ghost use Rattle.pm_nets.specs.SignalBits.{NamesUndriven};
 ghost use Rattle.pm_nets.specs.Sites.{IsSite};
 
 use crate::check::lesser;
-use crate::connecting::site_of;
 use crate::drivers::mark_drivers;
-use crate::joining::join_all;
+use crate::fault::NetFault;
 use crate::naming::{SignalBit, name_bit};
 use crate::site::Site;
 use disjoint_sets::DisjointSets;
 use pm_design::Design;
-use pm_instances::flat_bits;
 use pm_io::NoMemory;
 use std::alloc::Global;
 
@@ -73,21 +70,27 @@ pub(crate) fn least_undriven(
     Ok(first_other(sets, driven))
 }
 
-/// The least flat bit of a net of two or more flat bits that has no driver, or `None` if there is no such net. Drivers
-/// are the inputs of the top, the ties, and what the blocks of all instances may write. A flat bit that nothing joins
-/// needs no driver.
-///
-/// Requires a sound design of at most 2^18 flat bits. It fails only when memory runs out.
-pub fn undriven(alloc: Global, design: &Design) -> Result<Option<SignalBit>, NoMemory>
+/// Refuses a net of two or more flat bits that has no driver: it names the least flat bit of such a net. Drivers are the
+/// inputs of the top, the ties, and what the blocks of all instances may write. A flat bit that nothing joins needs no
+/// driver.
+pub(crate) fn refuse_undriven(
+    alloc: Global,
+    design: &Design,
+    site: &Site,
+    sets: &mut DisjointSets,
+) -> Result<(), NetFault>
     requires design { IsSound design.now }
-    requires small { IsSmall design.now }
-    ensures { IfOk result (λ found. NamesUndriven (laid_out design.now) found) }
+    requires site { IsPlaced design.now site.now }
+    requires single { IsSingle design.now }
+    requires nets { IsPartition (flat_bits_of design.now) (links_of (laid_out design.now)) sets.old }
+    ensures same { sets.new ≡ sets.old }
+    ensures answers { Answers design.now (λ _. IsDriven design.now) result }
 {
-    let site = site_of(alloc, design)?;
-    let bits = flat_bits(alloc, design)? as u32;
-    let mut sets = join_all(alloc, design, &site, bits)?;
-    match least_undriven(alloc, design, &site, &mut sets)? {
-        None => Ok(None),
-        Some(flat) => Ok(Some(name_bit(alloc, design, &site, flat)?)),
+    match least_undriven(alloc, design, site, sets)? {
+        None => Ok(()),
+        Some(flat) => {
+            let SignalBit { signal, bit } = name_bit(alloc, design, site, flat)?;
+            Err(NetFault::NoWriter(signal, bit))
+        }
     }
 }
