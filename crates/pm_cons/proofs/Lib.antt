@@ -1,0 +1,13 @@
+pub mod Below
+pub mod Closure
+pub mod Paths
+pub mod Left
+pub mod Runs
+pub mod Settling
+pub mod Firing
+pub mod Listing
+pub mod Cycles
+pub mod Erasing
+pub mod Breaking
+pub mod Pairs
+pub mod Samples

@@ -1,0 +1,5 @@
+use Rattle.pm_cons.proofs.Pairs.{ordered}
+use Rattle.pm_cons.proofs.laws.no_loop_and_no_pair_are_ordered.Goals as goal
+
+pub returns : goal.returns
+returns c = λ d conflicts listed loop none. ordered d conflicts listed loop none

@@ -1,0 +1,13 @@
+pub mod Below
+pub mod Precedence
+pub mod UpdateBlocks
+pub mod Settled
+pub mod Orders
+pub mod Listing
+pub mod Firing
+pub mod DefaultOrder
+pub mod Cycles
+pub mod Edges
+pub mod Breaks
+pub mod Conflicts
+pub mod Sample
