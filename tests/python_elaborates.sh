@@ -2,8 +2,8 @@
 # Compares the kinds that the program `show_design` finds in designs with those that Python finds, which runs the same
 # designs with a stand-in for the module `pymtl3`: the designs of examples/, rows of crates/show_design, and designs
 # made at random. Then it compares typed bodies, of the examples and of designs that tests/random_bodies.py makes. At last
-# the habits of tests/idioms.txt must be refused or accepted as it says. If the program isn't built, or a source is newer
-# than it, it is proved and built first.
+# the designs of tests/python_rows.py must become what stands beside them. If the program isn't built, or a source is
+# newer than it, it is proved and built first.
 #
 #     tests/python_elaborates.sh [SEED [COUNT]]        COUNT designs are made at random from SEED; else 200 from 1
 #
@@ -40,4 +40,4 @@ if ! [ -x "$program" ]; then
 fi
 python3 "$top/tests/python_elaborates.py" --compare "$program" "$@" || exit
 python3 "$top/tests/python_layers.py" --compare "$program" bodies "$@" || exit
-python3 "$top/tests/python_idioms.py" "$program"
+python3 "$top/tests/python_rows.py" "$program"
