@@ -1,5 +1,5 @@
 -- The bodies of blocks, methods and guards.
-use Rattle.std.specs.Prelude.{ℕ, ◌-◌, false, if◌then◌else◌, List, [], ◌∷◌, map, length, slice_get, replicate, take, Option, Some, None, Ok}
+use Rattle.std.specs.Prelude.{ℕ, ◌-◌, false, if◌then◌else◌, List, [], ◌∷◌, map, length, slice_get, replicate, take, Option, Some, None}
 use Rattle.pm_design.specs.declared.body.Block.{Block}
 use Rattle.pm_design.specs.declared.body.BlockSort.{BlockSort}
 use Rattle.pm_design.specs.declared.body.BlockSort.TheVariants as block_sort
@@ -27,14 +27,14 @@ use Rattle.pm_typing.specs.declared.frame.Frame.{Frame}
 use Rattle.pm_typing.specs.declared.operand.Operand.{Operand}
 use Rattle.pm_typing.specs.declared.scope.BodySort.{BodySort}
 use Rattle.pm_typing.specs.declared.scope.BodySort.TheVariants as sort
-use Rattle.pm_typing.specs.Counted.{Checked, and_then, Counted, ◌>>=◌, ◌>>◌, pure, fail, lift, node}
+use Rattle.pm_typing.specs.Counted.{Counted, ◌>>=◌, ◌>>◌, pure, fail, lift, node}
 use Rattle.pm_typing.specs.Expressions.{meaning, operand}
 use Rattle.pm_typing.specs.Operands.{bits_in, condition, fitted}
 use Rattle.pm_typing.specs.References.{type_of}
 use Rattle.pm_typing.specs.Sites.{Scope, Site}
 use Rattle.pm_types.specs.declared.bodies.TypedBody.{TypedBody}
 use Rattle.pm_types.specs.declared.bodies.TypedBody.TheVariants as typed
-use Rattle.pm_types.specs.Assignments.{right_value, declared_as, with_bound}
+use Rattle.pm_types.specs.Assignments.{right_value, with_bound, with_stored}
 use Rattle.pm_types.specs.OwnNames.{all_added, node_names, argument_names}
 use Rattle.pm_types.specs.Statements.{lines}
 use Rattle.pm_types.specs.Targets.{may_write}
@@ -62,16 +62,15 @@ abbrev pub place_of : Option ℕ → ℕ
 place_of (Some k) = k
 place_of None = 0
 
--- an argument is a temporary that is assigned
-unfoldable pub with_argument : Names ℕ → ℕ → Argument → Frame → Checked Frame
-with_argument own line a f =
-    and_then (declared_as line (place_of (get own a.name)) a.ty f)
-    (λ p. Ok (with_bound (place_of (get own a.name)) (bound.Temp p.1 a.ty) p.0))
+-- an argument is a temporary of its own, which is assigned; of two arguments of one name the last has the name
+unfoldable pub with_argument : Names ℕ → Argument → Frame → Frame
+with_argument own a f =
+    with_bound (place_of (get own a.name)) (bound.Temp (length f.temps) a.ty) (with_stored (place_of (get own a.name)) a.ty f)
 
 -- arguments are the first temporaries
-unfoldable pub with_arguments : Names ℕ → ℕ → List Argument → Frame → Checked Frame
-with_arguments own line [] f = Ok f
-with_arguments own line (a ∷ as') f = and_then (with_argument own line a f) (λ g. with_arguments own line as' g)
+unfoldable pub with_arguments : Names ℕ → List Argument → Frame → Frame
+with_arguments own [] f = f
+with_arguments own (a ∷ as') f = with_arguments own as' (with_argument own a f)
 
 -- ---- blocks
 
@@ -167,8 +166,7 @@ method_lines scope m line types nodes f =
 -- a method
 unfoldable pub method_body : Scope → ℕ → ℕ → MethodTypes → List Node → Counted TypedBody
 method_body scope m line types nodes =
-    lift (with_arguments scope.own line types.arguments (first_frame (length scope.own)))
-    >>= (λ f. method_lines scope m line types nodes f)
+    method_lines scope m line types nodes (with_arguments scope.own types.arguments (first_frame (length scope.own)))
 
 -- ---- all bodies
 

@@ -1,5 +1,5 @@
 //! Assignments, and calls alone.
-ghost use Rattle.std.specs.Prelude.{◌≡◌, IfOk};
+ghost use Rattle.std.specs.Prelude.{◌≡◌, IfOk, length};
 ghost use Rattle.pm_typing.specs.Counted.{Counts, Gives, Moves, Runs};
 ghost use Rattle.pm_typing.specs.Expressions.{meaning};
 ghost use Rattle.pm_typing.specs.Sites.{scope_of};
@@ -261,10 +261,11 @@ fn set_stored(frame: &mut Frame, place: u32, stored: Stored)
     }
 }
 
-// Makes a new temporary for the name at a place, and gives its number.
+/// Makes a new temporary for the name at a place, and gives its number.
 #[tactic(auto, unfolding(crate::specs::Assignments::with_stored))]
-fn store_new(frame: &mut Frame, place: u32, ty: ValueType) -> Result<u32, TypeFault>
-    ensures { Declares (spec.store_new place ty frame.old) result frame.new }
+pub fn store_new(frame: &mut Frame, place: u32, ty: ValueType) -> Result<u32, NoMemory>
+    ensures frame { IfOk result (λ _. frame.new ≡ spec.with_stored place ty frame.old) }
+    ensures number { IfOk result (λ number. number ≡ length frame.old.temps) }
 {
     let number = next_temp(frame)?;
     add_temp(frame, ty.width)?;
@@ -300,7 +301,7 @@ pub fn declared_as(
                 Err(TypeFault::WidthMismatch(line))
             }
         }
-        None => store_new(frame, place, ty),
+        None => Ok(store_new(frame, place, ty)?),
     }
 }
 

@@ -2,12 +2,12 @@
 ghost use Rattle.std.specs.Prelude.{◌≡◌, [], IfOk, Ok, map, length, replicate, None};
 ghost use Rattle.std.specs.Option.{option_copied};
 ghost use Rattle.pm_typing.specs.declared.frame.Bound.TheVariants as bounds;
-ghost use Rattle.pm_typing.specs.Counted.{Changes, Counts, Gives};
+ghost use Rattle.pm_typing.specs.Counted.{Counts, Gives};
 ghost use Rattle.pm_typing.specs.Sites.{scope_of};
 ghost use Rattle.pm_types.specs.Bodies as spec;
 ghost use Rattle.pm_types.specs.LentReturns.{return_of};
 
-use crate::assignments::{bind, declared_as, right_value};
+use crate::assignments::{bind, right_value, store_new};
 use crate::own_names::{add_arguments, add_nodes};
 use crate::statements::lines;
 use crate::targets::may_write;
@@ -94,18 +94,13 @@ fn place_of(place: Option<&u32>) -> u32
     }
 }
 
-// An argument is a temporary that is assigned.
+// An argument is a temporary of its own, which is assigned. The last of two arguments of one name has the name.
 #[tactic(auto, unfolding(crate::specs::Bodies::with_argument))]
-fn add_argument(
-    own: &Table<u32>,
-    frame: &mut Frame,
-    line: u32,
-    argument: &Argument,
-) -> Result<(), TypeFault>
-    ensures { Changes (spec.with_argument own.now line argument.now frame.old) result frame.new }
+fn add_argument(own: &Table<u32>, frame: &mut Frame, argument: &Argument) -> Result<(), NoMemory>
+    ensures { IfOk result (λ _. frame.new ≡ spec.with_argument own.now argument.now frame.old) }
 {
     let place = place_of(own.get(argument.name.as_slice()));
-    let temp = declared_as(frame, line, place, argument.ty)?;
+    let temp = store_new(frame, place, argument.ty)?;
     bind(frame, place, Bound::Temp(temp, argument.ty));
     Ok(())
 }
@@ -114,13 +109,12 @@ fn add_argument(
 fn put_arguments(
     own: &Table<u32>,
     frame: &mut Frame,
-    line: u32,
     arguments: &[Argument],
-) -> Result<(), TypeFault>
-    ensures { Changes (spec.with_arguments own.now line arguments.now frame.old) result frame.new }
+) -> Result<(), NoMemory>
+    ensures { IfOk result (λ _. frame.new ≡ spec.with_arguments own.now arguments.now frame.old) }
 {
     for argument in arguments {
-        add_argument(own, frame, line, argument)?;
+        add_argument(own, frame, argument)?;
     }
     Ok(())
 }
@@ -350,12 +344,7 @@ fn method_body(
     ensures { Counts (spec.method_body (scope_of typer.now.scope) method line types.now nodes.now tally.old) result tally.new }
 {
     let mut frame = first_frame(typer.alloc, typer.scope.own.len())?;
-    put_arguments(
-        typer.scope.own,
-        &mut frame,
-        line,
-        types.arguments.as_slice(),
-    )?;
+    put_arguments(typer.scope.own, &mut frame, types.arguments.as_slice())?;
     method_lines(typer, tally, frame, method, line, types, nodes)
 }
 

@@ -4,4 +4,4 @@ use Rattle.pm_types.proofs.bodies.put_arguments.Given as goal
 
 abbrev pub invariant-loop-argument : goal.invariant-loop-argument
 invariant-loop-argument l =
-    with_arguments l.own l.line (drop l.argument-index l.arguments) l.frame ≡ with_arguments l.own l.line l.arguments l.fn.frame
+    with_arguments l.own (drop l.argument-index l.arguments) l.frame ≡ with_arguments l.own l.arguments l.fn.frame
