@@ -48,8 +48,9 @@ use Rattle.pm_design.specs.declared.body.Ex.TheVariants as ex
 use Rattle.pm_type_laws.proofs.Valued as valued
 use Rattle.pm_type_laws.proofs.Valued.{Fits, HasState, fitted_is, state_held, typed_parts, value_is}
 use Rattle.pm_type_laws.proofs.Expressions.{IsMeaning, IsRight}
+use Rattle.pm_design.specs.Widths.{is_width}
 use Rattle.pm_body_laws.specs.Premises.{Allows}
-use Rattle.pm_body_laws.proofs.Frames.{is_stored, Begins, IsDone, IsFrame, Leads, Ready, behind, begins_itself, begins_more, begins_on, bounds_on, behind_more, bound_put, frame_put, later, leads_itself, leads_on, next_of, put_is, put_leads, site_is, view_at, view_of, weaken}
+use Rattle.pm_body_laws.proofs.Frames.{is_stored, Begins, IsDone, IsFrame, Leads, Ready, behind, begins_itself, begins_more, begins_on, bounds_on, behind_more, bound_put, frame_put, later, leads_itself, leads_on, next_of, put_is, put_leads, site_is, view_at, view_of, weaken, wide_first, wide_more}
 use Rattle.pm_body_laws.proofs.Acting.{Acts, HasTemp, acted_is, setting_fine, setting_keeps, setting_sets}
 
 -- an expression that gives what it should in each view
@@ -75,7 +76,7 @@ module _ (s : Sight) (scope : Scope) (allows : Allows s scope) where
     pub leads : Leads s scope f r.0
     pub value : (p : Progress) → Begins r.0.temps s.temps → IsFrame s scope p f → IsOperand (view_of s p r.0.out) scope r.1
 
-  temporary_typed : (v : View) (t : ℕ) (ty : ValueType) → IsTrue (v.assigned t) → IsTrue (is_temp v.sight ty.width t)
+  pub temporary_typed : (v : View) (t : ℕ) (ty : ValueType) → IsTrue (v.assigned t) → IsTrue (is_temp v.sight ty.width t)
       → IsTrue (is_type scope.design.design.shapes ty) → IsTrue (is_temporary v scope t 0 ty)
   temporary_typed v t ty set temp good =
       let parts = and_parts (nat_lt t (length v.sight.temps)) _ temp in
@@ -89,12 +90,28 @@ module _ (s : Sight) (scope : Scope) (allows : Allows s scope) where
       let next = next_of f.temps ty.width s.temps begins in
       both (nat_lt (length f.temps) (length s.temps)) _ (le-leb _ _ next.0) (eq-eqb _ _ next.1)
 
-  temp_leads : (f : Frame) (width : ℕ) → Leads s scope f (with_temp width f)
+  temp_leads : (f : Frame) (width : ℕ) → ((i : Ready s scope f) → IsTrue (is_width width)) → Leads s scope f (with_temp width f)
   unfolding with_temp
-  temp_leads f width = record {
+  temp_leads f width good = record {
     temps = begins_more f.temps width;
-    frame = λ p begins is. record { bounds = is.bounds; stored = is.stored; sound = is.sound; fine = is.fine };
+    frame = λ p begins is.
+        let i : Ready s scope f = record {
+          progress = p;
+          temps = begins_on f.temps (f.temps ++ width ∷ []) s.temps (begins_more f.temps width) begins;
+          frame = is;
+        } in
+        record {
+          bounds = is.bounds;
+          stored = is.stored;
+          sound = is.sound;
+          fine = is.fine;
+          wide = wide_more f.temps width is.wide (good i);
+        };
   }
+
+  -- a type is as wide as a value may be
+  width_good : (ty : ValueType) → IsTrue (is_type scope.design.design.shapes ty) → IsTrue (is_width ty.width)
+  width_good ty is = (and_parts (is_width ty.width) _ is).0
 
   -- ---- right sides
 
@@ -104,7 +121,13 @@ module _ (s : Sight) (scope : Scope) (allows : Allows s scope) where
   before_temp f width r = record {
     progress = r.progress;
     temps = begins_on f.temps (f.temps ++ width ∷ []) s.temps (begins_more f.temps width) r.temps;
-    frame = record { bounds = r.frame.bounds; stored = r.frame.stored; sound = r.frame.sound; fine = r.frame.fine };
+    frame = record {
+      bounds = r.frame.bounds;
+      stored = r.frame.stored;
+      sound = r.frame.sound;
+      fine = r.frame.fine;
+      wide = wide_first f.temps (width ∷ []) r.frame.wide;
+    };
   }
 
   kept_frame : Acted → ValueType → Frame → Frame
@@ -114,7 +137,8 @@ module _ (s : Sight) (scope : Scope) (allows : Allows s scope) where
       → Leads s scope f (kept_frame a ty f)
   unfolding kept_frame with_temp before_temp
   kept_leads f a ty is acts =
-      leads_on s scope f (with_temp ty.width f) (kept_frame a ty f) (temp_leads f ty.width)
+      leads_on s scope f (with_temp ty.width f) (kept_frame a ty f)
+      (temp_leads f ty.width (λ i. width_good ty ((acts i).typed ty is)))
       (put_leads s scope (with_temp ty.width f) (statement_of a.act (Some (length f.temps)))
       (λ r.
       let i = before_temp f ty.width r in
@@ -384,12 +408,12 @@ module _ (s : Sight) (scope : Scope) (allows : Allows s scope) where
   -- ---- temporaries
 
   -- a frame in which the name of a type has a temporary
-  record Declared (f : Frame) (ty : ValueType) (r : Frame × ℕ) : Type 0 where
-    temps : Begins f.temps r.0.temps
-    out : r.0.out ≡ f.out
-    bounds : r.0.bounds ≡ f.bounds
-    frame : (p : Progress) → Begins r.0.temps s.temps → IsTrue (is_type scope.design.design.shapes ty) → IsFrame s scope p f → IsFrame s scope p r.0
-    temp : (p : Progress) → Begins r.0.temps s.temps → IsFrame s scope p f → IsTrue (is_temp s ty.width r.1)
+  pub record Declared (f : Frame) (ty : ValueType) (r : Frame × ℕ) : Type 0 where
+    pub temps : Begins f.temps r.0.temps
+    pub out : r.0.out ≡ f.out
+    pub bounds : r.0.bounds ≡ f.bounds
+    pub frame : (p : Progress) → Begins r.0.temps s.temps → IsTrue (is_type scope.design.design.shapes ty) → IsFrame s scope p f → IsFrame s scope p r.0
+    pub temp : (p : Progress) → Begins r.0.temps s.temps → IsFrame s scope p f → IsTrue (is_temp s ty.width r.1)
 
   abbrev IsStored : Option Stored → Type 0
   IsStored = Where (λ (t : Stored). IsTrue (is_stored s scope t))
@@ -420,7 +444,7 @@ module _ (s : Sight) (scope : Scope) (allows : Allows s scope) where
         both (nat_lt t.number (length s.temps)) _ parts.0 (eq-eqb _ _ (eqb-true _ _ wide.0 ∙ same_width t.ty ty same));
   }
 
-  declared_new : (f : Frame) (k : ℕ) (ty : ValueType) → Declared f ty (with_stored k ty f, length f.temps)
+  pub declared_new : (f : Frame) (k : ℕ) (ty : ValueType) → Declared f ty (with_stored k ty f, length f.temps)
   unfolding with_stored with_temp
   declared_new f k ty = record {
     temps = begins_more f.temps ty.width;
@@ -435,6 +459,7 @@ module _ (s : Sight) (scope : Scope) (allows : Allows s scope) where
               (both (slice_index_or s.temps (length f.temps) 0 == ty.width) _ (eq-eqb _ _ next.1) good));
           sound = frame.sound;
           fine = frame.fine;
+          wide = wide_more f.temps ty.width frame.wide (width_good ty good);
         };
     temp = λ p begins frame. temp_of f ty begins;
   }

@@ -73,7 +73,7 @@ module _ (scope : Scope) (name : List ℕ) (body : List St) (temps : List ℕ) (
       let told = and_parts (same_role r.role (signal_of scope.design.design scope.kind r.part).role) _ known.1 in
       subst (λ (b : Bool). IsTrue (if b then lookups.is_whole scope.design.design scope.kind r.part else true)) (same_form r.form whole) told.1
 
-  sight_of : BlockSort → Sight
+  unfoldable pub sight_of : BlockSort → Sight
   sight_of of = block_sight scope.design.design scope.kind (record { name = name; sort = of; body = body; temps = temps })
 
   writes_is : (of : BlockSort) → scope.sort ≡ sort_at of → (r : Reference) → IsTrue (is_reference scope r) → IsTrue (may_write scope.sort r)
@@ -89,7 +89,7 @@ module _ (scope : Scope) (name : List ℕ) (body : List St) (temps : List ℕ) (
   changes_is block_sort.Once same may = refl
   changes_is block_sort.Edge same may = subst (λ (b : BodySort). IsTrue (may_change b)) same may
 
-  allows_block : AreCalled scope → (of : BlockSort) → scope.sort ≡ sort_at of → Allows (sight_of of) scope
+  pub allows_block : AreCalled scope → (of : BlockSort) → scope.sort ≡ sort_at of → Allows (sight_of of) scope
   unfolding sight_of
   allows_block called of same = record {
     sees = λ assigned. record { made = made; reads = λ p is. is; states = refl; calls = refl };

@@ -7,6 +7,7 @@ use Rattle.pm_design.specs.declared.body.Ex.{Ex}
 use Rattle.pm_design.specs.declared.body.St.TheVariants as st
 use Rattle.pm_design.specs.Settings.{Progress, progress_of}
 use Rattle.pm_design.specs.Typing.{Sight, is_sound, typing}
+use Rattle.pm_design.specs.Widths.{is_width}
 use Rattle.pm_design.proofs.Soundness.{sound_set}
 use Rattle.pm_design.proofs.Progressing.{progress_set}
 use Rattle.pm_syn.specs.declared.expression.Expr.{Expr}
@@ -45,9 +46,9 @@ module _ (s : Sight) (scope : Scope) (allows : Allows s scope) where
   none_stored (suc n) = (tt, none_stored n)
 
   -- nothing is assigned yet
-  first_frame_is : (p : Progress) (n : ℕ) → IsTrue p.fine → IsFrame s scope p (first_frame n)
+  pub first_frame_is : (p : Progress) (n : ℕ) → IsTrue p.fine → IsFrame s scope p (first_frame n)
   unfolding first_frame
-  first_frame_is p n fine = record { bounds = none_bound p n; stored = none_stored n; sound = refl; fine = fine }
+  first_frame_is p n fine = record { bounds = none_bound p n; stored = none_stored n; sound = refl; fine = fine; wide = refl }
 
   nothing : Progress
   nothing = record { fine = true; assigned = λ t. nat_lt t 0 }
@@ -62,7 +63,7 @@ module _ (s : Sight) (scope : Scope) (allows : Allows s scope) where
       (λ same.
       let begins : Begins f.temps s.temps = ([], append_nil f.temps ∙ sym same) in
       let last = leads.frame nothing begins (first_frame_is nothing (length scope.own) refl) in
-      (last.sound, last.fine)))
+      (last.sound, last.fine, last.wide)))
 
   -- the body of a lambda
   pub lambda_is : (b line : ℕ) (to : Reference) (e : Expr) → IsTrue (is_reference scope to) → is_edge scope.sort ≡ false → Yields (IsSoundBody s) (lambda_body scope b line to e)
@@ -80,10 +81,10 @@ module _ (s : Sight) (scope : Scope) (allows : Allows s scope) where
       v = record { sight = s; assigned = λ t. nat_lt t 0 }
 
       set_is : (e : Ex) → Fits v scope (type_of to) e → IsTrue (may_write scope.sort to)
-          → IsTrue (list_all (is_sound s) (st.Set to.part e ∷ [])) × IsTrue (progress_of 0 (st.Set to.part e ∷ [])).fine
+          → IsTrue (list_all (is_sound s) (st.Set to.part e ∷ [])) × IsTrue (progress_of 0 (st.Set to.part e ∷ [])).fine × IsTrue (list_all is_width [])
       set_is e typed may =
           let says = typed_parts v scope e (type_of to) typed in
           let writes : IsTrue (s.writes to.part) = allows.writes to is may (λ is_edge. absurd (false≢true (sym edge ∙ is_edge))) in
           let sound : IsTrue (is_sound s (st.Set to.part e)) =
           rw (sound_set s to.part e) (both (s.writes to.part) _ writes (both (typing s e).fine _ says.fine (eq-eqb _ _ says.wide))) in
-          (both (is_sound s (st.Set to.part e)) true sound refl, rw (progress_set to.part e nothing) says.reads)
+          (both (is_sound s (st.Set to.part e)) true sound refl, rw (progress_set to.part e nothing) says.reads, refl)

@@ -6,6 +6,7 @@ use Rattle.std.proofs.lemmas.Bool.{and_parts}
 use Rattle.pm_design.specs.declared.body.St.{St}
 use Rattle.pm_design.specs.Settings.{Progress, in_turn, progress}
 use Rattle.pm_design.specs.Typing.{Sight, is_sound}
+use Rattle.pm_design.specs.Widths.{is_width}
 use Rattle.pm_typing.specs.declared.frame.Bound.{Bound}
 use Rattle.pm_typing.specs.declared.frame.Bound.TheVariants as bound
 use Rattle.pm_typing.specs.declared.frame.Frame.{Frame}
@@ -57,7 +58,7 @@ pub append_nil : (xs : List ℕ) → xs ++ [] ≡ xs
 append_nil [] = refl
 append_nil (x ∷ xs) = ap (λ (ys : List ℕ). x ∷ ys) (append_nil xs)
 
-append_append : (xs ys zs : List ℕ) → (xs ++ ys) ++ zs ≡ xs ++ (ys ++ zs)
+pub append_append : (xs ys zs : List ℕ) → (xs ++ ys) ++ zs ≡ xs ++ (ys ++ zs)
 append_append [] ys zs = refl
 append_append (x ∷ xs) ys zs = ap (λ (ws : List ℕ). x ∷ ws) (append_append xs ys zs)
 
@@ -79,6 +80,22 @@ next_at (y ∷ xs) x rest = let more = next_at xs x rest in (omega (arith, more.
 pub next_of : (xs : List ℕ) (x : ℕ) (ys : List ℕ) → Begins (xs ++ x ∷ []) ys → (length xs < length ys) × (slice_index_or ys (length xs) 0 ≡ x)
 next_of xs x ys is =
     subst (λ (zs : List ℕ). (length xs < length zs) × (slice_index_or zs (length xs) 0 ≡ x)) (sym (append_append xs (x ∷ []) is.0) ∙ is.1) (next_at xs x is.0)
+
+-- ---- widths
+
+-- one temporary more
+pub wide_more : (ws : List ℕ) (w : ℕ) → IsTrue (list_all is_width ws) → IsTrue (is_width w) → IsTrue (list_all is_width (ws ++ w ∷ []))
+wide_more [] w all is = both (is_width w) true is refl
+wide_more (x ∷ ws) w all is =
+    let parts = and_parts (is_width x) (list_all is_width ws) all in
+    both (is_width x) _ parts.0 (wide_more ws w parts.1 is)
+
+-- the first of them
+pub wide_first : (ws more : List ℕ) → IsTrue (list_all is_width (ws ++ more)) → IsTrue (list_all is_width ws)
+wide_first [] more all = refl
+wide_first (x ∷ ws) more all =
+    let parts = and_parts (is_width x) (list_all is_width (ws ++ more)) all in
+    both (is_width x) _ parts.0 (wide_first ws more parts.1)
 
 -- ---- frames
 
@@ -109,6 +126,7 @@ pub record IsFrame (s : Sight) (scope : Scope) (p : Progress) (f : Frame) : Type
   pub stored : Each (Where (λ (t : Stored). IsTrue (is_stored s scope t))) f.stored
   pub sound : IsTrue (list_all (is_sound s) f.out)
   pub fine : IsTrue (behind p f.out).fine
+  pub wide : IsTrue (list_all is_width f.temps)
 
 -- one body so far leads to another: it keeps its temporaries, and what a body must have
 pub record Leads (s : Sight) (scope : Scope) (f g : Frame) : Type 0 where
@@ -192,6 +210,7 @@ module _ (s : Sight) (scope : Scope) where
         stored = is.stored;
         sound = all_behind f.out st is.sound done.sound;
         fine = subst (λ (q : Progress). IsTrue q.fine) (sym same) done.fine;
+        wide = is.wide;
       }
 
   -- one statement more

@@ -5,3 +5,9 @@ pub mod Stating
 pub mod Bodies
 pub mod Blocks
 pub mod Samples
+pub mod Called
+pub mod Numbers
+pub mod Sights
+pub mod Methods
+pub mod Places
+pub mod Wholes

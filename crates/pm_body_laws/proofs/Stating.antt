@@ -52,7 +52,7 @@ anything {A} c m = by (c m)
     by (Ok r) = tt
     by (Err e) = tt
 
-good_meaning : (s : Sight) (e : Expr) → IsGood s (meaning e)
+pub good_meaning : (s : Sight) (e : Expr) → IsGood s (meaning e)
 good_meaning s e assigned = expression_is (record { sight = s; assigned = assigned }) e
 
 module _ (s : Sight) (scope : Scope) (allows : Allows s scope) where
@@ -168,6 +168,7 @@ module _ (s : Sight) (scope : Scope) (allows : Allows s scope) where
           stored = frame.stored;
           sound = refl;
           fine = both (behind p f.out).fine (reads_assigned (behind p f.out).assigned c) frame.fine says.reads;
+          wide = frame.wide;
         } in
         let one = this.frame q within_g begun in
         let again : IsFrame s scope q (bare (record g { bounds = f.bounds })) = record {
@@ -175,6 +176,7 @@ module _ (s : Sight) (scope : Scope) (allows : Allows s scope) where
           stored = one.stored;
           sound = refl;
           fine = begun.fine;
+          wide = one.wide;
         } in
         let two = other.frame q begins again in
         let st : St = st.If c g.out h.out in
@@ -188,6 +190,7 @@ module _ (s : Sight) (scope : Scope) (allows : Allows s scope) where
               (rw (sound_if s c g.out h.out) (both (typing s c).fine _ says.fine
               (both (list_all (λ b. b) (map (is_sound s) g.out)) _ (all_true g.out one.sound) (all_true h.out two.sound))));
           fine = subst (λ (r : Progress). IsTrue r.fine) (sym same) (both (behind q g.out).fine _ one.fine two.fine);
+          wide = two.wide;
         };
   }
 
@@ -259,6 +262,7 @@ module _ (s : Sight) (scope : Scope) (allows : Allows s scope) where
       stored = is.stored;
       sound = is.sound;
       fine = is.fine;
+      wide = is.wide;
     };
   }
 

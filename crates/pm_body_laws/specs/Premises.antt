@@ -5,6 +5,7 @@ use Rattle.std.specs.Option.{option_map}
 use Rattle.pm_design.specs.declared.connection.Callee.{Callee}
 use Rattle.pm_design.specs.Settings.{progress_of}
 use Rattle.pm_design.specs.Typing.{Sight, is_sound}
+use Rattle.pm_design.specs.Widths.{is_width}
 use Rattle.pm_values.specs.declared.reference.Reference.{Reference}
 use Rattle.pm_values.specs.declared.reference.ValueType.{ValueType}
 use Rattle.pm_typing.specs.Sites.{Scope}
@@ -40,10 +41,10 @@ pub record Allows (s : Sight) (scope : Scope) : Type 0 where
   pub calls : (c : Callee) (types : CallTypes) → call_types scope c ≡ Some types → IsTrue (s.calls c).there
       → IsCalled s scope c types
 
--- the body of a block is sound where its temporaries are those of the sight
+-- the body of a block is sound where its temporaries, of 1 to 128 bits, are those of the sight
 abbrev pub IsSoundBody : Sight → TypedBody → Type 0
 IsSoundBody s (typed.Block b body temps) = s.temps ≡ temps
-    → IsTrue (list_all (is_sound s) body) × IsTrue (progress_of 0 body).fine
+    → IsTrue (list_all (is_sound s) body) × IsTrue (progress_of 0 body).fine × IsTrue (list_all is_width temps)
 IsSoundBody s _ = Unit {0}
 
 -- each method and caller port that is there takes and answers the types that elaboration kept of it

@@ -4,3 +4,4 @@ pub mod NotedKinds
 pub mod SeenValues
 pub mod MadeScopes
 pub mod TypedPlaces
+pub mod KeptKinds

@@ -89,7 +89,7 @@ role_seen d kind r is = by (owner_of d kind r.part.owner) refl is
         (sym (owner_there d kind r.part.owner k at)) (next k (slice_get k.signals r.part.signal) refl is)
 
 -- a type that fits is there
-type_is : (d : Design) (t : ValueType) → type_fits d t ≡ true → is_type d.shapes t ≡ true
+pub type_is : (d : Design) (t : ValueType) → type_fits d t ≡ true → is_type d.shapes t ≡ true
 type_is d t is =
     let parts = and_parts (is_width t.width) (shape_fits d t.width t.shape) is in
     both (is_width t.width) _ parts.0 (fills_so d t.width t.shape parts.1)
@@ -142,7 +142,7 @@ module _ (given : RawDesign) (kind : Kind) (raw : RawKind) (own : Names ℕ) (so
   types_seen : (t : ValueType) → type_fits d t ≡ true → is_type d.shapes t ≡ true
   types_seen t is = type_is d t is
 
-  reference_seen : (r : Reference) → taken_fits d kind (taken.Signal r) ≡ true → is_reference scope r ≡ true
+  pub reference_seen : (r : Reference) → taken_fits d kind (taken.Signal r) ≡ true → is_reference scope r ≡ true
   reference_seen r is =
       let parts = signal_parts d kind r is in
       let lies = and_parts (lookup.lies_within d kind r.part) (is_type d.shapes (type_of r))
