@@ -1,8 +1,11 @@
 -- A design that passes all tests isn't refused.
-use Rattle.std.proofs.Common.{◌≤◌, ◌≡◌, ◌<◌, ◌^◌, ℕ, List, [], arith, refl, subst, ◌⊎◌, inl, inr}
+use Rattle.std.proofs.Common.{◌≤◌, ◌≡◌, ◌<◌, ◌^◌, ℕ, List, [], arith, refl, sym, ◌∙◌, subst, ◌⊎◌, inl, inr}
 use Rattle.std.specs.Prelude.{Contains, Result, Ok, Err}
 use Rattle.pm_design.specs.declared.design.Design.{Design}
 use Rattle.pm_design.specs.declared.plan.Nets.{Nets}
+use Rattle.pm_callees.specs.Chains.{LeadsTo}
+use Rattle.pm_callees.specs.Sets.{IsEmpty, IsSeveral, IsSingle as IsOne}
+use Rattle.pm_design.specs.Calls.{End}
 use Rattle.pm_design.specs.Instances.{flat_bits}
 use Rattle.pm_design.specs.Lookups.{kind_of}
 use Rattle.pm_instances.specs.Laid.{laid_out}
@@ -31,20 +34,29 @@ no_first_line design check line none first =
 not_large : (design : Design) (count : ℕ) → IsSmall design → IsLarge design count → ⊥
 not_large design count small large = let more : 2 ^ 18 < flat_bits design = large.0 in absurd (omega arith)
 
+-- a set of one is neither empty nor has two
+not_empty : (In : End → Type 0) → IsEmpty In → IsOne In → ⊥
+not_empty In none one = none one.one one.within
+
+not_several : (In : End → Type 0) → IsSeveral In → IsOne In → ⊥
+not_several In two one = two.differ (one.only two.one two.one_in ∙ sym (one.only two.other two.other_in))
+
 -- only memory is wanting
 pub only_memory : (design : Design) (error : NetFault) → Refuses design error → IsAccepted design → error ≡ fault.NoMemory
 only_memory design (fault.TooManyBits count) refuses accepted =
-    absurd (not_large design count accepted.0.0.0.0.0 refuses)
+    absurd (not_large design count accepted.0.0.0.0.0.0 refuses)
 only_memory design (fault.BadDirection line) refuses accepted =
-    absurd (no_first_line design _ line accepted.0.0.0.0.1 refuses.1)
+    absurd (no_first_line design _ line accepted.0.0.0.0.0.1 refuses.1)
 only_memory design (fault.JoinMismatch line) refuses accepted =
-    absurd (no_first_line design _ line accepted.0.0.0.1 refuses.1)
+    absurd (no_first_line design _ line accepted.0.0.0.0.1 refuses.1)
 only_memory design (fault.MultiWriter signal bit) refuses accepted =
-    absurd (accepted.0.0.1 refuses.1.0 refuses.1.1.double)
+    absurd (accepted.0.0.0.1 refuses.1.0 refuses.1.1.double)
 only_memory design (fault.NoWriter signal bit) refuses accepted =
-    absurd (accepted.0.1 refuses.1.0 refuses.1.1.undriven)
-only_memory design (fault.NoCallee port) refuses accepted = absurd refuses
-only_memory design (fault.TwoCallees port) refuses accepted = absurd refuses
+    absurd (accepted.0.0.1 refuses.1.0 refuses.1.1.undriven)
+only_memory design (fault.NoCallee port) refuses accepted =
+    absurd (not_empty (LeadsTo (laid_out design) refuses.1.0) refuses.1.1.none (accepted.0.1 refuses.1.0 refuses.1.1.port))
+only_memory design (fault.TwoCallees port) refuses accepted =
+    absurd (not_several (LeadsTo (laid_out design) refuses.1.0) refuses.1.1.two (accepted.0.1 refuses.1.0 refuses.1.1.port))
 only_memory design (fault.MethodCycle method) refuses accepted = absurd refuses
 only_memory design (fault.TooMuchWork count) refuses accepted =
     let less : work_of design ≤ 2 ^ 24 = accepted.1 in

@@ -29,11 +29,11 @@ use Rattle.pm_nets.specs.Sites.{IsSite}
 use Rattle.pm_nets.proofs.FirstGivers.{least_two, no_two}
 
 -- half of an end is its flat bit
-half_end : (owner bit : ℕ) → end_at owner bit / 2 ≡ bit
+pub half_end : (owner bit : ℕ) → end_at owner bit / 2 ≡ bit
 half_end zero bit = omega arith
 half_end (suc c) bit = omega arith
 
-whole_end : (e : ℕ) → (owner : ℕ) × (end_at owner (e / 2) ≡ e)
+pub whole_end : (e : ℕ) → (owner : ℕ) × (end_at owner (e / 2) ≡ e)
 whole_end e = go (cases_lt (2 * (e / 2)) e)
   where
     go : (2 * (e / 2) < e) ⊎ (e ≤ 2 * (e / 2)) → (owner : ℕ) × (end_at owner (e / 2) ≡ e)

@@ -16,3 +16,13 @@ pub mod GiverLists
 pub mod GiftLists
 pub mod DoubleBits
 pub mod Accepting
+pub mod Across
+pub mod Members
+pub mod Crossings
+pub mod Bodies
+pub mod Tops
+pub mod Wires
+pub mod Seeing
+pub mod Legality
+pub mod Deciding
+pub mod SampleNets

@@ -23,7 +23,7 @@ use Rattle.pm_nets.specs.declared.site.Site.{Site}
 use Rattle.pm_nets.specs.Sites.{IsSite, first_of, owner_of}
 
 -- a signal's first bit, after a first one
-bit_from : (ss : List Signal) (b s : ℕ) → s < length ss → get_or (first_bits_from b ss) s 0 ≡ b + get_or
+pub bit_from : (ss : List Signal) (b s : ℕ) → s < length ss → get_or (first_bits_from b ss) s 0 ≡ b + get_or
     (first_bits_from 0 ss) s 0
 bit_from [] b s lt = absurd (omega arith)
 bit_from (x ∷ xs) b zero lt = omega arith
@@ -35,7 +35,7 @@ bit_from (x ∷ xs) b (suc s) lt =
     omega arith
 
 -- a signal's bits are among those of all signals
-bits_within : (ss : List Signal) (b s : ℕ) (d : Signal) → s < length ss →
+pub bits_within : (ss : List Signal) (b s : ℕ) (d : Signal) → s < length ss →
     get_or (first_bits_from b ss) s 0 + (get_or ss s d).width ≤ b + total (map (λ x. x.width) ss)
 bits_within [] b s d lt = absurd (omega arith)
 bits_within (x ∷ xs) b zero d lt = omega arith
@@ -110,7 +110,7 @@ child_listed design i c lt = go (cases_lt c (length cs))
         get_or_past cs c (length (instances_of design)) le in
         absurd (omega arith)
 
-has_owner : (design : Design) → IsElaborated design → (i owner s : ℕ) → i < length (instances_of design) →
+pub has_owner : (design : Design) → IsElaborated design → (i owner s : ℕ) → i < length (instances_of design) →
     s < length (owner_kind_of design (kind_at (laid_out design) i) owner).signals → HasOwner design i owner
 has_owner design elaborated i zero s lt there = record { there = lt; kind = refl; scope = refl }
 has_owner design elaborated i (suc c) s lt there =

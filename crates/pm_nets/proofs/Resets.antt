@@ -35,7 +35,7 @@ reset_bit design elaborated k lt =
     eqb-true s.width 1 (and_parts (s.width == 1) (is_input s.role) more).0
 
 -- so its bit lies within it
-reset_lies : (design : Design) → IsElaborated design → (kind : Kind) (owner k : ℕ) → k < length design.kinds →
+pub reset_lies : (design : Design) → IsElaborated design → (kind : Kind) (owner k : ℕ) → k < length design.kinds →
     owner_kind_of design kind owner ≡ kind_of design k → IsTrue (lies_within design kind (reset_part owner))
 reset_lies design elaborated kind owner k lt is =
     let w : (signal_of design kind (reset_part owner)).width ≡ 1 =

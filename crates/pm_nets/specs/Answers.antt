@@ -1,10 +1,12 @@
 -- What the nets of a design are, or why there are none.
-use Rattle.std.specs.Prelude.{ℕ, ◌^◌, ◌≡◌, ◌<◌, ◌≤◌, List, Result, Ok, Err, Some}
+use Rattle.std.specs.Prelude.{ℕ, ◌^◌, ◌≡◌, ◌<◌, ◌≤◌, List, Result, Ok, Err, None, Some}
 use Rattle.pm_design.specs.declared.design.Design.{Design}
 use Rattle.pm_design.specs.declared.plan.Nets.{Nets}
 use Rattle.disjoint_sets.specs.Partitions.{IsPartition}
 use Rattle.pm_design.specs.Instances.{flat_bits}
 use Rattle.pm_instances.specs.Laid.{laid_out}
+use Rattle.pm_callees.specs.declared.fault.CallerFault.TheVariants as caller
+use Rattle.pm_callees.specs.Callees.{Finds as FindsCaller}
 use Rattle.pm_nets.specs.declared.check.Check.TheVariants as check
 use Rattle.pm_nets.specs.declared.fault.NetFault.{NetFault}
 use Rattle.pm_nets.specs.declared.fault.NetFault.TheVariants as fault
@@ -37,9 +39,13 @@ IsSingle design = IsMatched design × HasNoDouble (laid_out design)
 abbrev pub IsDriven : Design → Type 0
 IsDriven design = IsSingle design × HasNoUndriven (laid_out design)
 
+-- and each caller port leads to exactly one method
+abbrev pub IsCallable : Design → Type 0
+IsCallable design = IsDriven design × FindsCaller (laid_out design) None
+
 -- and the blocks have few nodes
 abbrev pub IsLight : Design → Type 0
-IsLight design = IsDriven design × (work_of design ≤ 2 ^ 24)
+IsLight design = IsCallable design × (work_of design ≤ 2 ^ 24)
 
 -- a design that passes all tests
 abbrev pub IsAccepted : Design → Type 0
@@ -62,10 +68,10 @@ Refuses design (fault.MultiWriter signal bit) =
     IsMatched design × NamesDouble (laid_out design) (Some (record { signal = signal; bit = bit }))
 Refuses design (fault.NoWriter signal bit) =
     IsSingle design × NamesUndriven (laid_out design) (Some (record { signal = signal; bit = bit }))
-Refuses design (fault.NoCallee port) = ⊥
-Refuses design (fault.TwoCallees port) = ⊥
+Refuses design (fault.NoCallee port) = IsDriven design × FindsCaller (laid_out design) (Some (caller.NoCallee port))
+Refuses design (fault.TwoCallees port) = IsDriven design × FindsCaller (laid_out design) (Some (caller.TwoCallees port))
 Refuses design (fault.MethodCycle method) = ⊥
-Refuses design (fault.TooMuchWork count) = IsDriven design × IsHeavy design count
+Refuses design (fault.TooMuchWork count) = IsCallable design × IsHeavy design count
 Refuses design fault.NoMemory = Unit {0}
 
 -- what holds of a result, or why there is none

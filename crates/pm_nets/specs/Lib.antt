@@ -3,6 +3,7 @@ pub mod Drivers
 pub mod Ends
 pub mod Faults
 pub mod Givers
+pub mod Legal
 pub mod Links
 pub mod SignalBits
 pub mod Sites

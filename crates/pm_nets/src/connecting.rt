@@ -5,7 +5,7 @@ ghost use Rattle.pm_design.specs.Elaborated.{IsElaborated};
 ghost use Rattle.pm_design.specs.Instances.{flat_bits as flat_bits_of};
 ghost use Rattle.pm_design.specs.Sound.{IsSound};
 ghost use Rattle.pm_instances.specs.Laid.{laid_out};
-ghost use Rattle.pm_nets.specs.Answers.{Accepts, Answers, AreDrivenNets, IsAccepted, IsDriven, IsLight, IsMatched, IsPlaced, IsSingle, IsSmall};
+ghost use Rattle.pm_nets.specs.Answers.{Accepts, Answers, AreDrivenNets, IsAccepted, IsCallable, IsDriven, IsLight, IsMatched, IsPlaced, IsSingle, IsSmall};
 ghost use Rattle.pm_nets.specs.Links.{AreNets, links_of};
 ghost use Rattle.pm_nets.specs.Sites.{IsSite};
 
@@ -18,6 +18,7 @@ use crate::numbering::number_nets;
 use crate::site::Site;
 use crate::table::offsets;
 use disjoint_sets::DisjointSets;
+use pm_callees::{CallerFault, caller_fault};
 use pm_design::{Design, Nets};
 use pm_instances::{flat_bits, flatten};
 use pm_io::NoMemory;
@@ -90,12 +91,25 @@ fn driven_nets(alloc: Global, design: &Design, site: &Site) -> Result<DisjointSe
     Ok(sets)
 }
 
+// Refuses a design with a caller port that doesn't lead to exactly one method.
+fn refuse_callers(alloc: Global, design: &Design) -> Result<(), NetFault>
+    requires design { IsElaborated design.now }
+    requires driven { IsDriven design.now }
+    ensures { Answers design.now (λ _. IsCallable design.now) result }
+{
+    match caller_fault(alloc, design)? {
+        None => Ok(()),
+        Some(CallerFault::NoCallee(port)) => Err(NetFault::NoCallee(port)),
+        Some(CallerFault::TwoCallees(port)) => Err(NetFault::TwoCallees(port)),
+    }
+}
+
 // Refuses a design whose blocks have too many nodes.
 #[tactic(auto, using(crate::proofs::Accepting::weighing))]
 fn refuse_work(alloc: Global, design: &Design, site: &Site) -> Result<(), NetFault>
     requires design { IsSound design.now }
     requires site { IsPlaced design.now site.now }
-    requires driven { IsDriven design.now }
+    requires callable { IsCallable design.now }
     ensures { Answers design.now (λ _. IsLight design.now) result }
 {
     let work = work(alloc, design, site.instances.as_slice())?;
@@ -115,6 +129,7 @@ fn tested_nets(alloc: Global, design: &Design) -> Result<Nets, NetFault>
     refuse_lines(alloc, design, &site)?;
     refuse_doubles(alloc, design, &site)?;
     let sets = driven_nets(alloc, design, &site)?;
+    refuse_callers(alloc, design)?;
     refuse_work(alloc, design, &site)?;
     Ok(number_nets(alloc, &sets)?)
 }
@@ -131,10 +146,12 @@ fn tested_nets(alloc: Global, design: &Design) -> Result<Nets, NetFault>
 /// 3. [`NetFault::JoinMismatch`]: ends have equal types, and constants fit. The line is named in the same way.
 /// 4. [`NetFault::MultiWriter`]: within each component a net has at most one driver.
 /// 5. [`NetFault::NoWriter`]: each net of two or more flat bits has a driver. A flat bit that nothing joins needs none.
-/// 6. [`NetFault::TooMuchWork`]: at most 2^24 nodes in the blocks of all instances, with the count, which stops at 2^63.
+/// 6. [`NetFault::NoCallee`]: from each caller port a chain of connections leads to a method.
+/// 7. [`NetFault::TwoCallees`]: and from none to two or more.
+/// 8. [`NetFault::TooMuchWork`]: at most 2^24 nodes in the blocks of all instances, with the count, which stops at 2^63.
 ///
-/// Of 4 and 5 the least flat bit is named. Methods aren't put in the place of their calls where nodes are counted, and
-/// the callers of methods aren't tested yet.
+/// Of 4 and 5 the least flat bit is named, of 6 and 7 the first port by instance and declaration. Methods aren't put in
+/// the place of their calls where nodes are counted, and a method that leads to a call of itself isn't refused yet.
 #[tactic(auto, using(crate::proofs::Accepting::accepting))]
 pub fn nets(alloc: Global, design: &Design) -> Result<Nets, NetFault>
     requires { IsSound design.now }
