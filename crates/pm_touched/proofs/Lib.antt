@@ -1,0 +1,9 @@
+pub mod Bools
+pub mod Equations
+pub mod Events
+pub mod Faults
+pub mod Listed
+pub mod Nets
+pub mod Renamed
+pub mod Together
+pub mod Walked

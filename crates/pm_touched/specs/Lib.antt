@@ -1,0 +1,10 @@
+pub mod Events
+pub mod Expressions
+pub mod Paths
+pub mod Touches
+pub mod Walks
+pub mod Found
+pub mod Renaming
+pub mod Blocks
+pub mod Naming
+pub mod Listed
