@@ -1,17 +1,13 @@
 -- If there is a loop, there is one reported cycle.
-use Rattle.std.proofs.Common.{◌≡◌, ℕ, zero, suc, ◌<◌, ◌≤◌, ◌⊎◌, List, [], ◌∷◌, length, Bool, true, false, ◌&&◌, Option, Some, None, refl, sym, ap, ap₂, subst, ◌∙◌, inl, inr, arith}
+use Rattle.std.proofs.Common.{◌≡◌, ℕ, zero, suc, ◌<◌, ◌≤◌, ◌⊎◌, List, [], ◌∷◌, length, true, false, ◌&&◌, Option, Some, None, refl, sym, ap, ap₂, subst, ◌∙◌, inl, inr, arith}
 use Rattle.std.proofs.lemmas.Bool.{and_parts, and_from, both_ways, cases_order}
-use Rattle.pm_cons.specs.Below.{any_below, least_below}
+use Rattle.pm_cons.specs.Below.{least_below}
 use Rattle.pm_cons.specs.Precedence.{Precedence, IsOfBlocks, precedes, Path, has_loop}
 use Rattle.pm_cons.specs.Precedence.Path.{Edge, Onward}
 use Rattle.pm_cons.proofs.Below.{any_below_from, any_below_at, least_below_some, least_below_none, least_below_least}
 use Rattle.pm_cons.proofs.Paths.{steps_some, steps_all}
 use Rattle.pm_cons.specs.Cycles.{LeadsAlong, IsUpTo, IsReportedCycle}
-
--- whether a walk leads from a to a block, with k blocks between
-unfoldable pub walks : ℕ → Precedence → ℕ → ℕ → Bool
-walks zero g a to = g.before a to
-walks (suc k) g a to = any_below g.count (λ c. g.before a c && walks k g c to)
+use Rattle.pm_cons.specs.Walks.{walks, IsLeastWalk}
 
 pub walk_of : (g : Precedence) → IsOfBlocks g → (xs : List ℕ) (a to : ℕ) → LeadsAlong g a xs to →
     walks (length xs) g a to ≡ true
@@ -20,12 +16,6 @@ walk_of g within [] a to leads = leads
 walk_of g within (x ∷ xs) a to leads =
     any_below_from g.count (λ c. g.before a c && walks (length xs) g c to) x (within a x leads.0).1
     (and_from (g.before a x) (walks (length xs) g x to) leads.0 (walk_of g within xs x to leads.1))
-
--- the least walk with k blocks between
-pub record IsLeastWalk (g : Precedence) (k a to : ℕ) (xs : List ℕ) : Type 0 where
-  pub leads : LeadsAlong g a xs to
-  pub size : length xs ≡ k
-  pub least : (ys : List ℕ) → length ys ≡ k → LeadsAlong g a ys to → IsUpTo xs ys
 
 pub least_none : (g : Precedence) (a to : ℕ) → g.before a to ≡ true → IsLeastWalk g 0 a to []
 least_none g a to h = record { leads = h; size = refl; least = λ ys e leads. tt }

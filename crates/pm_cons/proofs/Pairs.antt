@@ -22,9 +22,9 @@ ordered_of g conflicts a b listed none = go (precedes g a b) (precedes g b a) re
         (and_from (not (precedes g a b)) (not (precedes g b a)) (not_from_false (precedes g a b) e)
         (not_from_false (precedes g b a) f))))
 
-pub ordered : (d : UpdateBlocks) (conflicts : List (List ℕ)) → AreAllListed d conflicts →
+pub ordered : {P : Type 0} (d : UpdateBlocks P) (conflicts : List (List ℕ)) → AreAllListed d conflicts →
     has_loop d.precedence ≡ false → ((a b : ℕ) → is_unordered d.precedence conflicts a b ≡ false) → IsOrdered d
-ordered d conflicts listed loop none = record {
+ordered {P} d conflicts listed loop none = record {
   no_loop =
       λ b lt. false_from_ne_true (precedes d.precedence b b)
       (λ to. both_ways (has_loop d.precedence) loop
@@ -32,7 +32,7 @@ ordered d conflicts listed loop none = record {
   pairs = λ a b p ne la lb writes touch. go a b p ne la lb writes touch (cases_order a b);
 }
   where
-    go : (a b p : ℕ) → ¬ (a ≡ b) → a < d.precedence.count → b < d.precedence.count → d.writes a p ≡ true →
+    go : (a b : ℕ) (p : P) → ¬ (a ≡ b) → a < d.precedence.count → b < d.precedence.count → d.writes a p ≡ true →
         touches d b p ≡ true → (a ≡ b) ⊎ ((a < b) ⊎ (b < a)) →
         (precedes d.precedence a b ≡ true) ⊎ (precedes d.precedence b a ≡ true)
     go a b p ne la lb writes touch (inl e) = absurd (ne e)

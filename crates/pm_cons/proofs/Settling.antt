@@ -12,16 +12,16 @@ use Rattle.pm_cons.proofs.Runs.{HaveRun, runs_leads, next_leads}
 use Rattle.pm_cons.proofs.Left.{IsLast-from, left_is}
 
 -- the latest writer of a place among the blocks that ran
-abbrev pub latest : UpdateBlocks → List ℕ → ℕ → Option ℕ
+abbrev pub latest : {P : Type 0} → UpdateBlocks P → List ℕ → P → Option ℕ
 latest d bs p = find (λ w. d.writes w p) bs
 
 -- w ran, writes p, and precedes no other writer that ran
-pub record IsLatest (d : UpdateBlocks) (bs : List ℕ) (p w : ℕ) : Type 0 where
+pub record IsLatest {P : Type 0} (d : UpdateBlocks P) (bs : List ℕ) (p : P) (w : ℕ) : Type 0 where
   pub came : has bs w ≡ true
   pub writes : d.writes w p ≡ true
   pub others : (u : ℕ) → has bs u ≡ true → d.writes u p ≡ true → (u ≡ w) ⊎ (precedes d.precedence w u ≡ false)
 
-latest_here : (d : UpdateBlocks) (x : ℕ) (bs : List ℕ) (p : ℕ) → HaveRun d.precedence (x ∷ bs) →
+latest_here : {P : Type 0} (d : UpdateBlocks P) (x : ℕ) (bs : List ℕ) (p : P) → HaveRun d.precedence (x ∷ bs) →
     d.writes x p ≡ true → IsLatest d (x ∷ bs) p x
 latest_here d x bs p runs is = record {
   came = or_left (eqb x x) (has bs x) (eq-eqb x x refl);
@@ -33,7 +33,7 @@ latest_here d x bs p runs is = record {
       (or_cases (eqb x u) (has bs u) h);
 }
 
-latest_more : (d : UpdateBlocks) (x : ℕ) (bs : List ℕ) (p w : ℕ) → d.writes x p ≡ false → IsLatest d bs p w →
+latest_more : {P : Type 0} (d : UpdateBlocks P) (x : ℕ) (bs : List ℕ) (p : P) (w : ℕ) → d.writes x p ≡ false → IsLatest d bs p w →
     IsLatest d (x ∷ bs) p w
 latest_more d x bs p w is last = record {
   came = or_right (eqb x w) (has bs w) last.came;
@@ -45,7 +45,7 @@ latest_more d x bs p w is last = record {
       (λ (e : has bs u ≡ true). last.others u e wr) (or_cases (eqb x u) (has bs u) h);
 }
 
-latest_some : (d : UpdateBlocks) (bs : List ℕ) (p w : ℕ) → HaveRun d.precedence bs → latest d bs p ≡ Some w →
+latest_some : {P : Type 0} (d : UpdateBlocks P) (bs : List ℕ) (p : P) (w : ℕ) → HaveRun d.precedence bs → latest d bs p ≡ Some w →
     IsLatest d bs p w
 latest_some d [] p w runs e = absurd (cc)
 latest_some d (x ∷ bs) p w runs e = go (d.writes x p) refl e (latest_some d bs p w runs.1)
@@ -56,7 +56,7 @@ latest_some d (x ∷ bs) p w runs e = go (d.writes x p) refl e (latest_some d bs
         let same : x ≡ w = cc in subst (λ (y : ℕ). IsLatest d (x ∷ bs) p y) same (latest_here d x bs p runs is)
     go false is e ih = latest_more d x bs p w is (ih e)
 
-latest_none : (d : UpdateBlocks) (bs : List ℕ) (p : ℕ) → latest d bs p ≡ None → (w : ℕ) → has bs w ≡ true →
+latest_none : {P : Type 0} (d : UpdateBlocks P) (bs : List ℕ) (p : P) → latest d bs p ≡ None → (w : ℕ) → has bs w ≡ true →
     d.writes w p ≡ false
 latest_none d [] p e w h = absurd (cc)
 latest_none d (x ∷ bs) p e w h = go (d.writes x p) refl e (latest_none d bs p)
@@ -69,7 +69,7 @@ latest_none d (x ∷ bs) p e w h = go (d.writes x p) refl e (latest_none d bs p)
         (λ (s : has bs w ≡ true). ih e w s) (or_cases (eqb x w) (has bs w) h)
 
 -- of the writers of p, exactly those that ran pass
-pub record AreThose (d : UpdateBlocks) (bs : List ℕ) (among : ℕ → Bool) (p : ℕ) : Type 0 where
+pub record AreThose {P : Type 0} (d : UpdateBlocks P) (bs : List ℕ) (among : ℕ → Bool) (p : P) : Type 0 where
   pub came : (w : ℕ) → d.writes w p ≡ true → among w ≡ true → has bs w ≡ true
   pub passes : (w : ℕ) → d.writes w p ≡ true → has bs w ≡ true → among w ≡ true
 
@@ -78,7 +78,7 @@ unless true true x y h = ⊎_elim (λ (e : x ≡ true). or_left x y e) (λ (e : 
 unless false b x y h = refl
 unless true false x y h = refl
 
-pub last_is_latest : (d : UpdateBlocks) → IsWithin d → IsOrdered d → (bs : List ℕ) (among : ℕ → Bool) (p : ℕ) →
+pub last_is_latest : {P : Type 0} (d : UpdateBlocks P) → IsWithin d → IsOrdered d → (bs : List ℕ) (among : ℕ → Bool) (p : P) →
     HaveRun d.precedence bs → AreThose d bs among p → last_of d among p ≡ latest d bs p
 unfolding last_of
 last_is_latest d within ordered bs among p runs those = go (latest d bs p) refl
@@ -121,7 +121,7 @@ last_is_latest d within ordered bs among p runs those = go (latest d bs p) refl
         (within.writers w p last.writes) (test w last) (one w last) ∙ sym e
 
 -- if the next block touches p, the writers of p that precede it are those that ran
-next_those : (d : UpdateBlocks) → IsWithin d → IsOrdered d → (bs : List ℕ) (b p : ℕ) → MayRun d.precedence bs b →
+next_those : {P : Type 0} (d : UpdateBlocks P) → IsWithin d → IsOrdered d → (bs : List ℕ) (b : ℕ) (p : P) → MayRun d.precedence bs b →
     HaveRun d.precedence bs → touches d b p ≡ true → AreThose d bs (λ w. precedes d.precedence w b) p
 next_those d within ordered bs b p may runs touch = record {
   came = λ w wr to. next_leads d.precedence bs b may runs w to;
@@ -135,15 +135,15 @@ next_those d within ordered bs b p may runs touch = record {
 }
 
 -- the invariant: each place has what its latest writer leaves, or its start value
-abbrev pub Stands : UpdateBlocks → Valuation → List ℕ → Valuation → Type 0
-Stands d start bs v = (p : ℕ) → v p ≡ left_or (left d start) start (latest d bs p) p
+abbrev pub Stands : {P : Type 0} → UpdateBlocks P → Valuation P → List ℕ → Valuation P → Type 0
+Stands {P} d start bs v = (p : P) → v p ≡ left_or (left d start) start (latest d bs p) p
 
-pub stands_more : (d : UpdateBlocks) → IsWithin d → IsLocal d → IsOrdered d →
-    (start : Valuation) (bs : List ℕ) (b : ℕ) (v : Valuation) → MayRun d.precedence bs b → HaveRun d.precedence bs →
+pub stands_more : {P : Type 0} (d : UpdateBlocks P) → IsWithin d → IsLocal d → IsOrdered d →
+    (start : Valuation P) (bs : List ℕ) (b : ℕ) (v : Valuation P) → MayRun d.precedence bs b → HaveRun d.precedence bs →
     Stands d start bs v → Stands d start (b ∷ bs) (d.run b v)
-stands_more d within local ordered start bs b v may runs stands p = go (d.writes b p) refl
+stands_more {P} d within local ordered start bs b v may runs stands p = go (d.writes b p) refl
   where
-    sees : (q : ℕ) → touches d b q ≡ true → v q ≡ seen d start b q
+    sees : (q : P) → touches d b q ≡ true → v q ≡ seen d start b q
     sees q touch =
         stands q ∙ ap (λ (o : Option ℕ). left_or (left d start) start o q)
         (sym
@@ -153,32 +153,32 @@ stands_more d within local ordered start bs b v may runs stands p = go (d.writes
     go : (t : Bool) → d.writes b p ≡ t →
         d.run b v p ≡ left_or (left d start) start (cond t (Some b) (latest d bs p)) p
     go true is =
-        local.depends b v (seen d start b) sees p is ∙ ap (λ (w : Valuation). w p)
+        local.depends b v (seen d start b) sees p is ∙ ap (λ (w : Valuation P). w p)
         (sym (left_is d start within ordered b))
     go false is = local.changes b v p is ∙ stands p
 
 -- once all blocks ran, each place has its settled value
-pub stands_all : (d : UpdateBlocks) → IsWithin d → IsOrdered d → (start : Valuation) (bs : List ℕ) (v : Valuation) →
-    HaveRun d.precedence bs → ((b : ℕ) → b < d.precedence.count → has bs b ≡ true) → Stands d start bs v → (p : ℕ) →
+pub stands_all : {P : Type 0} (d : UpdateBlocks P) → IsWithin d → IsOrdered d → (start : Valuation P) (bs : List ℕ) (v : Valuation P) →
+    HaveRun d.precedence bs → ((b : ℕ) → b < d.precedence.count → has bs b ≡ true) → Stands d start bs v → (p : P) →
     v p ≡ settled d start p
 unfolding settled
-stands_all d within ordered start bs v runs all stands p =
+stands_all {P} d within ordered start bs v runs all stands p =
     stands p ∙ ap (λ (o : Option ℕ). left_or (left d start) start o p)
     (sym (last_is_latest d within ordered bs (λ _. true) p runs those))
   where
     those : AreThose d bs (λ _. true) p
     those = record { came = λ w wr pass. all w (within.writers w p wr); passes = λ w wr h. refl }
 
-run_settles_from : (d : UpdateBlocks) → IsWithin d → IsLocal d → IsOrdered d →
-    (start : Valuation) (bs order : List ℕ) (v : Valuation) → HaveRun d.precedence bs →
-    Completes d.precedence bs order → Stands d start bs v → (p : ℕ) → run_in_turn d order v p ≡ settled d start p
+run_settles_from : {P : Type 0} (d : UpdateBlocks P) → IsWithin d → IsLocal d → IsOrdered d →
+    (start : Valuation P) (bs order : List ℕ) (v : Valuation P) → HaveRun d.precedence bs →
+    Completes d.precedence bs order → Stands d start bs v → (p : P) → run_in_turn d order v p ≡ settled d start p
 run_settles_from d within local ordered start bs [] v runs rest stands p =
     stands_all d within ordered start bs v runs rest stands p
 run_settles_from d within local ordered start bs (b ∷ order) v runs rest stands p =
     run_settles_from d within local ordered start (b ∷ bs) order (d.run b v) (rest.0, runs) rest.1
     (stands_more d within local ordered start bs b v rest.0 runs stands) p
 
-pub run_settles : (d : UpdateBlocks) → IsWithin d → IsLocal d → IsOrdered d → (start : Valuation) (order : List ℕ) →
-    IsTopological d.precedence order → (p : ℕ) → run_in_turn d order start p ≡ settled d start p
+pub run_settles : {P : Type 0} (d : UpdateBlocks P) → IsWithin d → IsLocal d → IsOrdered d → (start : Valuation P) (order : List ℕ) →
+    IsTopological d.precedence order → (p : P) → run_in_turn d order start p ≡ settled d start p
 run_settles d within local ordered start order topological p =
     run_settles_from d within local ordered start [] order start tt topological (λ q. refl) p

@@ -1,6 +1,6 @@
 -- The edges of a design's blocks as a precedence.
 use Rattle.std.specs.Prelude.{◌≡◌, ℕ, List, [], Bool, length, slice_index_or}
-use Rattle.pm_cons.specs.declared.edge_lists.Edges.{Edges}
+use Rattle.pm_design.specs.declared.plan.Edges.{Edges}
 use Rattle.pm_cons.specs.Orders.{has}
 use Rattle.pm_cons.specs.Precedence.{Precedence, IsOfBlocks}
 

@@ -7,6 +7,7 @@ pub mod Listing
 pub mod Firing
 pub mod DefaultOrder
 pub mod Cycles
+pub mod Walks
 pub mod Edges
 pub mod Breaks
 pub mod Conflicts

@@ -24,6 +24,6 @@ abbrev pub IsTopological : Precedence → List ℕ → Type 0
 IsTopological g order = Completes g [] order
 
 -- the values after the blocks ran one after another, on one valuation
-abbrev pub run_in_turn : UpdateBlocks → List ℕ → Valuation → Valuation
+abbrev pub run_in_turn : {P : Type 0} → UpdateBlocks P → List ℕ → Valuation P → Valuation P
 run_in_turn d [] v = v
 run_in_turn d (b ∷ blocks) v = run_in_turn d blocks (d.run b v)

@@ -13,17 +13,17 @@ abbrev pub one : List Word
 one = record { width = 1; value = 1 } ∷ []
 
 -- other words at one place
-abbrev pub put : ℕ → List Word → Valuation → Valuation
+abbrev pub put : ℕ → List Word → Valuation ℕ → Valuation ℕ
 put place words v p = cond (eqb place p) words (v p)
 
 -- block 0 writes 1, and block 1 copies
-abbrev pub run : ℕ → Valuation → Valuation
+abbrev pub run : ℕ → Valuation ℕ → Valuation ℕ
 run zero v = put 0 one v
 run (suc zero) v = put 1 (v 0) v
 run (suc (suc b)) v = v
 
 -- the blocks with what they read and write
-abbrev pub blocks : UpdateBlocks
+abbrev pub blocks : UpdateBlocks ℕ
 blocks = record {
   precedence = precedence;
   run = run;
@@ -36,5 +36,5 @@ abbrev pub loop : Precedence
 loop = record { count = 2; before = λ a b. (eqb a 0 && eqb b 1) || (eqb a 1 && eqb b 0) }
 
 -- every place is empty
-abbrev pub start : Valuation
+abbrev pub start : Valuation ℕ
 start p = []

@@ -13,39 +13,39 @@ ghost use Rattle.pm_cons.specs.UpdateBlocks.{IsLocal, IsOrdered, IsWithin, Updat
 
 /// Schedule independence: if the blocks are ordered, then running each of them once in any topological order, from any
 /// start values, ends in the settled values.
-pub fn every_order_settles()
-    ensures { (d : UpdateBlocks) (start : Valuation) (order : List ℕ) (p : ℕ) →
+pub fn every_order_settles<P>()
+    ensures { (d : UpdateBlocks P) (start : Valuation P) (order : List ℕ) (p : P) →
         IsWithin d → IsLocal d → IsOrdered d → IsTopological d.precedence order →
         run_in_turn d order start p ≡ settled d start p }
 {}
 
 /// What an ordered block leaves is its run on what it sees, and to follow the precedence further back changes nothing.
-pub fn blocks_leave_their_run()
-    ensures run { (d : UpdateBlocks) (start : Valuation) (b p : ℕ) → IsWithin d → IsOrdered d →
+pub fn blocks_leave_their_run<P>()
+    ensures run { (d : UpdateBlocks P) (start : Valuation P) (b : ℕ) (p : P) → IsWithin d → IsOrdered d →
         left d start b p ≡ d.run b (seen d start b) p }
-    ensures depth { (d : UpdateBlocks) (start : Valuation) (k b p : ℕ) → IsWithin d → IsOrdered d →
+    ensures depth { (d : UpdateBlocks P) (start : Valuation P) (k b : ℕ) (p : P) → IsWithin d → IsOrdered d →
         d.precedence.count < k → left_to k d start b p ≡ left d start b p }
 {}
 
 /// Nothing else solves these equations: if each block leaves its run on what it sees, it leaves what is defined.
-pub fn nothing_else_is_left()
-    ensures { (d : UpdateBlocks) (start : Valuation) (f : ℕ → Valuation) (b p : ℕ) → IsWithin d → IsOrdered d →
+pub fn nothing_else_is_left<P>()
+    ensures { (d : UpdateBlocks P) (start : Valuation P) (f : ℕ → Valuation P) (b : ℕ) (p : P) → IsWithin d → IsOrdered d →
         IsLeft d start f → f b p ≡ left d start b p }
 {}
 
 /// Firing is sound. After any blocks have fired, each after its direct predecessors, perhaps several times: whatever
 /// precedes a fired block directly has fired; each fired block has recorded what it leaves; and once all blocks have
 /// fired, the records of the last writers are the settled values.
-pub fn firing_is_sound()
-    ensures fired { (d : UpdateBlocks) (start : Valuation) (events : List ℕ) (a b : ℕ) →
+pub fn firing_is_sound<P>()
+    ensures fired { (d : UpdateBlocks P) (start : Valuation P) (events : List ℕ) (a b : ℕ) →
         IsWithin d → IsOrdered d → MayAllFire d start none_fired events →
         IsTrue (has (fire_all d start none_fired events).fired b) → IsTrue (d.precedence.before a b) →
         IsTrue (has (fire_all d start none_fired events).fired a) }
-    ensures recorded { (d : UpdateBlocks) (start : Valuation) (events : List ℕ) (b p : ℕ) →
+    ensures recorded { (d : UpdateBlocks P) (start : Valuation P) (events : List ℕ) (b : ℕ) (p : P) →
         IsWithin d → IsOrdered d → MayAllFire d start none_fired events →
         IsTrue (has (fire_all d start none_fired events).fired b) →
         (fire_all d start none_fired events).recorded b p ≡ left d start b p }
-    ensures settled { (d : UpdateBlocks) (start : Valuation) (events : List ℕ) (p : ℕ) →
+    ensures settled { (d : UpdateBlocks P) (start : Valuation P) (events : List ℕ) (p : P) →
         IsWithin d → IsOrdered d → MayAllFire d start none_fired events →
         ((b : ℕ) → b < d.precedence.count → IsTrue (has (fire_all d start none_fired events).fired b)) →
         joined d start (fire_all d start none_fired events) p ≡ settled d start p }
@@ -65,8 +65,8 @@ pub fn topological_orders_list_blocks_in_order()
 {}
 
 /// If every conflict is listed, no block precedes itself and no listed pair is unordered, then the blocks are ordered.
-pub fn no_loop_and_no_pair_are_ordered()
-    ensures { (d : UpdateBlocks) (conflicts : List (List ℕ)) → AreAllListed d conflicts →
+pub fn no_loop_and_no_pair_are_ordered<P>()
+    ensures { (d : UpdateBlocks P) (conflicts : List (List ℕ)) → AreAllListed d conflicts →
         IsFalse (has_loop d.precedence) → ((a b : ℕ) → IsFalse (is_unordered d.precedence conflicts a b)) →
         IsOrdered d }
 {}
