@@ -1,0 +1,9 @@
+pub mod Checked
+pub mod Extended
+pub mod Filling
+pub mod Firsts
+pub mod Layers
+pub mod Least
+pub mod Made
+pub mod Ready
+pub mod Walked

@@ -1,0 +1,5 @@
+pub mod Cycles
+pub mod Faults
+pub mod LeastPair
+pub mod Ordering
+pub mod Tables
