@@ -1,0 +1,4 @@
+pub mod BlockLaws
+pub mod Memories
+pub mod PlanBlocks
+pub mod Sample
