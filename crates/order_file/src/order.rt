@@ -6,13 +6,21 @@ ghost use Rattle.order_file.specs.Orders as spec;
 
 use crate::lines::next_line;
 use name_places::{add_place, place_in};
-use pm_design::Flat;
+use pm_design::{Flat, Plan};
 use pm_io::{List, NoMemory};
 use pm_values::Table;
 use std::alloc::Global;
 
-/// The number of the block that each line names. A line that names none has the number of blocks.
-pub fn read_order(alloc: Global, blocks: &[Flat], text: &[u8]) -> Result<List<u32>, NoMemory>
+/// The number of the scheduled block that each line names. A line that names none has the number of these blocks.
+pub fn read_order(alloc: Global, plan: &Plan, text: &[u8]) -> Result<List<u32>, NoMemory>
+    requires { length plan.now.scheduled < 2 ^ 32 }
+    ensures { IfOk result (λ order. order ≡ spec.order_of plan.now.scheduled text.now) }
+{
+    numbers_of(alloc, plan.scheduled.as_slice(), text)
+}
+
+// The number of the block that each line names.
+fn numbers_of(alloc: Global, blocks: &[Flat], text: &[u8]) -> Result<List<u32>, NoMemory>
     requires { length blocks.now < 2 ^ 32 }
     ensures { IfOk result (λ order. order ≡ spec.order_of blocks.now text.now) }
 {

@@ -5,9 +5,12 @@ use Rattle.std.proofs.lemmas.Bool.{cases_Bool, false≢true}
 use Rattle.pm_trace.proofs.Steps.{mapped, nothing, same_some, stepped}
 use Rattle.std.specs.Option.{option_and_then}
 use Rattle.pm_bits.specs.Word.{Word}
+use Rattle.pm_design.specs.declared.plan.Plan.{Plan}
+use Rattle.pm_design.specs.Ports.{IsRowOf}
 use Rattle.pm_trace.specs.Rows.{ReadsRow, filled, give_values, row_of, value_at, values_at, with_value, with_values}
 use Rattle.pm_trace.specs.Values.{fitted, number_of, value_of}
 use Rattle.pm_trace.specs.Words.{words_of}
+use Rattle.pm_trace.specs.declared.row.RowGot.{RowGot}
 use Rattle.pm_trace.specs.declared.row.RowGot.TheVariants as got
 
 abbrev widths : List Word → List ℕ
@@ -83,6 +86,31 @@ fill_is row now (input ∷ inputs) (word ∷ words) values same is =
     ap (λ (v : Option Word). filled inputs words (with_value now input v)) here
     ∙ fill_is row (slice_set now input first.0) inputs words rest.0 stay rest.1
     ∙ ap (λ (vs : List Word). with_values (input ∷ inputs) vs now) rest.2
+
+-- so do the values of a whole line
+widths_kept : (row now : List Word) (inputs : List ℕ) (words : List (List ℕ)) (values : List Word)
+    → widths now ≡ widths row → values_at row inputs words ≡ Some values
+    → widths (with_values inputs values now) ≡ widths row
+unfolding values_at
+widths_kept row now [] words values same is = same
+widths_kept row now (input ∷ inputs) [] values same is = absurd (nothing values is)
+widths_kept row now (input ∷ inputs) (word ∷ words) values same is =
+    let first =
+    stepped (value_at row input word)
+    (λ value. option_map (λ more. value ∷ more) (values_at row inputs words)) values is in
+    let rest = mapped (values_at row inputs words) (λ more. first.0 ∷ more) values first.2 in
+    let here : value_at now input word ≡ Some first.0 = same_value row now input word same ∙ first.1 in
+    let stay : widths (slice_set now input first.0) ≡ widths row = widths_stay now input word first.0 here ∙ same in
+    ap (λ (vs : List Word). widths (with_values (input ∷ inputs) vs now)) (sym rest.2)
+    ∙ widths_kept row (slice_set now input first.0) inputs words rest.0 stay rest.1
+
+-- a row of a plan's inputs is one afterwards, whatever the line is
+pub row_still_fits : (plan : Plan) (inputs line : List ℕ) (old new : List Word) (got : RowGot)
+    → IsRowOf plan old → ReadsRow inputs line old new got → IsRowOf plan new
+unfolding row_of
+row_still_fits plan inputs line old new got.Good fits reads =
+    ap widths reads.2 ∙ widths_kept old old inputs (words_of line) reads.0 refl reads.1 ∙ fits
+row_still_fits plan inputs line old new got.Bad fits reads = ap widths reads.1 ∙ fits
 
 some_values : (values : Option (List Word)) → is_some values ≡ true → (vs : List Word) × (values ≡ Some vs)
 some_values (Some vs) is = (vs, refl)

@@ -4,6 +4,7 @@ pub mod LineWords
 pub mod Numbers
 pub mod OneReading
 pub mod Places
+pub mod PlanPorts
 pub mod Positions
 pub mod ReadBack
 pub mod Steps

@@ -1,5 +1,6 @@
 pub mod Headers
 pub mod Laws
+pub mod Ports
 pub mod Reading
 pub mod Rows
 pub mod Trace

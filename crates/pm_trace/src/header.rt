@@ -28,7 +28,7 @@ struct Columns {
 }
 
 /// Reads a line as the header of vectors for inputs with these names.
-pub fn read_header(alloc: Global, inputs: &[Text], line: &[u8]) -> Result<Header, HeadFault>
+pub fn read_header_at(alloc: Global, inputs: &[Text], line: &[u8]) -> Result<Header, HeadFault>
     requires { length inputs.now < 2 ^ 32 }
     ensures { ReadsHeader inputs.now line.now result }
 {

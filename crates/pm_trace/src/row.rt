@@ -21,7 +21,7 @@ pub enum RowGot {
 }
 
 /// Reads a line into a row, which has a value of the width of each input. After `Bad` the row is unchanged.
-pub fn read_row(header: &Header, line: &[u8], row: &mut Row) -> RowGot
+pub fn read_row_at(header: &Header, line: &[u8], row: &mut Row) -> RowGot
     ensures { ReadsRow header.now.port_of line.now row.old.values row.new.values result }
 {
     let inputs = header.port_of.as_slice();

@@ -13,18 +13,18 @@ use pm_io::{LF, Put, Sink, Text, WriteBuffer, try_put};
 const HEX_DIGITS: [u8; 16] = *b"0123456789abcdef";
 
 /// Writes the line of names. The buffer is empty before, and afterwards unless the write failed.
-pub fn write_head<K: Sink>(names: &[Text], buffer: &mut WriteBuffer, sink: &mut K) -> Put
+pub fn write_head_at<K: Sink>(names: &[Text], buffer: &mut WriteBuffer, sink: &mut K) -> Put
     requires { buffer.old ≡ [] }
     ensures text { Puts (K.held sink.old) (K.held sink.new) (head_text names.now) result }
     ensures empty { result ≡ Put.All → buffer.new ≡ [] }
     ensures cause { HasCause (K.faults sink.old) (K.faults sink.new) (result ≡ Put.Failed) }
 {
-    try_put!(queue_head(names, buffer, sink));
+    try_put!(queue_head_at(names, buffer, sink));
     buffer.flush(sink)
 }
 
 /// Writes the line of a cycle. The buffer is empty before, and afterwards unless the write failed.
-pub fn write_row<K: Sink>(
+pub fn write_row_at<K: Sink>(
     cycle: u64,
     reset: bool,
     values: &[Bits],
@@ -36,12 +36,12 @@ pub fn write_row<K: Sink>(
     ensures empty { result ≡ Put.All → buffer.new ≡ [] }
     ensures cause { HasCause (K.faults sink.old) (K.faults sink.new) (result ≡ Put.Failed) }
 {
-    try_put!(queue_row(cycle, reset, values, buffer, sink));
+    try_put!(queue_row_at(cycle, reset, values, buffer, sink));
     buffer.flush(sink)
 }
 
 /// Queues the line of names.
-pub fn queue_head<K: Sink>(names: &[Text], buffer: &mut WriteBuffer, sink: &mut K) -> Put
+pub fn queue_head_at<K: Sink>(names: &[Text], buffer: &mut WriteBuffer, sink: &mut K) -> Put
     ensures text { Queues (K.held sink.old) (K.held sink.new) buffer.old buffer.new (head_text names.now) result }
     ensures cause { HasCause (K.faults sink.old) (K.faults sink.new) (result ≡ Put.Failed) }
 {
@@ -51,7 +51,7 @@ pub fn queue_head<K: Sink>(names: &[Text], buffer: &mut WriteBuffer, sink: &mut 
 }
 
 /// Queues the line of a cycle: its number, `reset`, and the value of each port.
-pub fn queue_row<K: Sink>(
+pub fn queue_row_at<K: Sink>(
     cycle: u64,
     reset: bool,
     values: &[Bits],
@@ -68,7 +68,12 @@ pub fn queue_row<K: Sink>(
 }
 
 // The number of a cycle, a blank, and `reset`.
-fn queue_start<K: Sink>(cycle: u64, reset: bool, buffer: &mut WriteBuffer, sink: &mut K) -> Put
+pub(crate) fn queue_start<K: Sink>(
+    cycle: u64,
+    reset: bool,
+    buffer: &mut WriteBuffer,
+    sink: &mut K,
+) -> Put
     ensures text { Queues (K.held sink.old) (K.held sink.new) buffer.old buffer.new (start_text cycle reset) result }
     ensures cause { HasCause (K.faults sink.old) (K.faults sink.new) (result ≡ Put.Failed) }
 {
@@ -94,7 +99,7 @@ fn queue_names<K: Sink>(names: &[Text], buffer: &mut WriteBuffer, sink: &mut K) 
 }
 
 // A blank and a name.
-fn queue_name<K: Sink>(name: &Text, buffer: &mut WriteBuffer, sink: &mut K) -> Put
+pub(crate) fn queue_name<K: Sink>(name: &Text, buffer: &mut WriteBuffer, sink: &mut K) -> Put
     ensures text { Queues (K.held sink.old) (K.held sink.new) buffer.old buffer.new (name_text name.now) result }
     ensures cause { HasCause (K.faults sink.old) (K.faults sink.new) (result ≡ Put.Failed) }
 {
@@ -113,7 +118,7 @@ fn queue_values<K: Sink>(values: &[Bits], buffer: &mut WriteBuffer, sink: &mut K
 }
 
 // A blank and a value.
-fn queue_value<K: Sink>(value: Bits, buffer: &mut WriteBuffer, sink: &mut K) -> Put
+pub(crate) fn queue_value<K: Sink>(value: Bits, buffer: &mut WriteBuffer, sink: &mut K) -> Put
     ensures text { Queues (K.held sink.old) (K.held sink.new) buffer.old buffer.new (value_text value) result }
     ensures cause { HasCause (K.faults sink.old) (K.faults sink.new) (result ≡ Put.Failed) }
 {

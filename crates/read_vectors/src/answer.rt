@@ -3,7 +3,9 @@ use crate::pieces::{names_of, pieces_of, values_of};
 use pm_bits::Bits;
 use pm_design::Row;
 use pm_io::{List, MemSink, NoMemory, Put, Text, WriteBuffer};
-use pm_trace::{HeadFault, Header, RowGot, read_header, read_row, write_head, write_row};
+use pm_trace::{
+    HeadFault, Header, RowGot, read_header_at, read_row_at, write_head_at, write_row_at,
+};
 use std::alloc::Global;
 
 /// The most inputs of a row.
@@ -37,7 +39,7 @@ fn answer_to(
     if names.len() > MAX_INPUTS {
         return Ok(Vec::from_slice(alloc, b"too many inputs")?);
     }
-    match read_header(alloc, names, header.as_bytes()) {
+    match read_header_at(alloc, names, header.as_bytes()) {
         Ok(header) => trace_of(alloc, names, ports, &header, lines),
         Err(HeadFault::BadHeader(word)) => wrong(alloc, word.as_slice()),
         Err(HeadFault::NoMemory) => Err(NoMemory),
@@ -64,7 +66,7 @@ fn trace_of(
     };
     for (cycle, line) in lines.iter().enumerate() {
         trace.extend_from_slice(b" / ")?;
-        match read_row(header, line.as_bytes(), &mut row) {
+        match read_row_at(header, line.as_bytes(), &mut row) {
             RowGot::Good => push_row(alloc, &mut trace, cycle as u64, row.values.as_slice())?,
             RowGot::Bad => trace.extend_from_slice(b"bad")?,
         }
@@ -75,7 +77,7 @@ fn trace_of(
 fn head_line(alloc: Global, names: &[Text]) -> Result<Vec<u8>, NoMemory> {
     let mut sink = sink(alloc)?;
     let mut buffer = WriteBuffer::new();
-    match write_head(names, &mut buffer, &mut sink) {
+    match write_head_at(names, &mut buffer, &mut sink) {
         Put::All => Ok(Vec::from_slice(alloc, without_lf(sink.bytes()))?),
         Put::Failed => Err(NoMemory),
     }
@@ -89,7 +91,7 @@ fn push_row(
 ) -> Result<(), NoMemory> {
     let mut sink = sink(alloc)?;
     let mut buffer = WriteBuffer::new();
-    match write_row(cycle, false, values, &mut buffer, &mut sink) {
+    match write_row_at(cycle, false, values, &mut buffer, &mut sink) {
         Put::All => Ok(trace.extend_from_slice(without_lf(sink.bytes()))?),
         Put::Failed => Err(NoMemory),
     }

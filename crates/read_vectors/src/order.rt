@@ -1,8 +1,10 @@
 //! What an order file of a row is read as.
+ghost use Rattle.std.specs.Prelude.{◌≡◌};
+
 use crate::pieces::pieces_of;
 use order_file::read_order;
-use pm_design::Flat;
-use pm_io::{NoMemory, Text};
+use pm_design::{Design, Edges, Flat, Nets, Plan};
+use pm_io::{List, NoMemory, Text};
 use std::alloc::Global;
 
 /// The most blocks of a row.
@@ -22,7 +24,7 @@ fn numbers_of(alloc: Global, names: &str, text: &[u8]) -> Result<Vec<u8>, NoMemo
     if blocks.len() > MAX_BLOCKS {
         return Ok(Vec::from_slice(alloc, b"too many blocks")?);
     }
-    let order = read_order(alloc, blocks.as_slice(), text)?;
+    let order = read_order(alloc, &plan_of(alloc, blocks), text)?;
     let mut answer = Vec::from_slice(alloc, b"order")?;
     for number in order.as_slice() {
         let printed = format!(in alloc; " {number}")?;
@@ -31,9 +33,39 @@ fn numbers_of(alloc: Global, names: &str, text: &[u8]) -> Result<Vec<u8>, NoMemo
     Ok(answer)
 }
 
+// A plan with these blocks and nothing else.
+fn plan_of(alloc: Global, scheduled: List<Flat>) -> Plan
+    ensures { result.scheduled ≡ scheduled }
+{
+    Plan {
+        design: Design {
+            kinds: List::new(alloc),
+            shapes: List::new(alloc),
+            top: 0,
+        },
+        instances: List::new(alloc),
+        nets: Nets {
+            net_of: List::new(alloc),
+            count: 0,
+        },
+        scheduled,
+        edge_blocks: List::new(alloc),
+        edges: Edges {
+            count: 0,
+            after: List::new(alloc),
+            explicit: List::new(alloc),
+            conflicts: List::new(alloc),
+        },
+        order: List::new(alloc),
+        inputs: List::new(alloc),
+        ports: List::new(alloc),
+        work: 0,
+    }
+}
+
 // Blocks of these names.
-fn blocks_of(alloc: Global, names: &str) -> Result<Vec<Flat>, NoMemory> {
-    let mut blocks = Vec::new(alloc);
+fn blocks_of(alloc: Global, names: &str) -> Result<List<Flat>, NoMemory> {
+    let mut blocks = List::new(alloc);
     for name in names.split_whitespace() {
         blocks.push(Flat {
             instance: 0,

@@ -5,7 +5,7 @@ use crate::fault::Fault;
 use pm_bits::Bits;
 use pm_design::Row;
 use pm_io::{LineGot, Lines, List, NoMemory, Put, Sink, Source, Text, WriteBuffer};
-use pm_trace::{Header, RowGot, queue_head, queue_row, read_header, read_row};
+use pm_trace::{Header, RowGot, queue_head_at, queue_row_at, read_header_at, read_row_at};
 use std::alloc::Global;
 
 /// The names of the inputs.
@@ -27,7 +27,7 @@ pub fn write_trace<I: Source, O: Sink>(
     let mut lines = Lines::new(alloc, LINE_LIMIT)?;
     match lines.next(input) {
         LineGot::Line => {
-            let header = read_header(alloc, names.as_slice(), lines.line())?;
+            let header = read_header_at(alloc, names.as_slice(), lines.line())?;
             write_rows(alloc, names.as_slice(), &header, &mut lines, input, output)
         }
         _ => Err(Fault::BadLine),
@@ -59,7 +59,7 @@ fn write_rows<I: Source, O: Sink>(
         values: zeros(alloc)?,
     };
     let mut buffer = WriteBuffer::new();
-    sure(queue_head(names, &mut buffer, output))?;
+    sure(queue_head_at(names, &mut buffer, output))?;
     for cycle in 0..u64::MAX {
         match lines.next(input) {
             LineGot::Line => {}
@@ -67,11 +67,11 @@ fn write_rows<I: Source, O: Sink>(
             LineGot::TooLong => return Err(Fault::BadLine),
             LineGot::Failed => return Err(Fault::BrokenStream),
         }
-        match read_row(header, lines.line(), &mut row) {
+        match read_row_at(header, lines.line(), &mut row) {
             RowGot::Good => {}
             RowGot::Bad => return Err(Fault::BadLine),
         }
-        sure(queue_row(cycle, false, row.values.as_slice(), &mut buffer, output))?;
+        sure(queue_row_at(cycle, false, row.values.as_slice(), &mut buffer, output))?;
     }
     sure(buffer.flush(output))
 }

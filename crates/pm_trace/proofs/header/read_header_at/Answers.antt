@@ -1,6 +1,6 @@
 use Rattle.std.proofs.Common.{sym}
 use Rattle.pm_trace.proofs.Places.{header_answered, missing_answered, no_header}
-use Rattle.pm_trace.proofs.header.read_header.Goals as goal
+use Rattle.pm_trace.proofs.header.read_header_at.Goals as goal
 
 pub returns-in-Err : goal.returns-in-Err
 returns-in-Err c = no_header c.args.inputs.now c.args.line.now c.in-Err.fault c.in-Err.ensures

@@ -3,7 +3,7 @@ use Rattle.std.specs.Prelude.{codes}
 use Rattle.pm_io.specs.declared.lines.TheConstants.{LF}
 use Rattle.pm_trace.proofs.Columns.{line_at_first, line_at_second, line_at_third}
 use Rattle.pm_trace.specs.Trace.{head_text, names_text}
-use Rattle.pm_trace.proofs.trace_text.queue_head.Goals as goal
+use Rattle.pm_trace.proofs.trace_text.queue_head_at.Goals as goal
 
 pub returns-clause-text : goal.returns-clause-text
 returns-clause-text g c =

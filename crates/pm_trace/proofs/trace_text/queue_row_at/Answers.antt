@@ -2,7 +2,7 @@ use Rattle.std.proofs.Common.{rules, refl, [], ◌∷◌}
 use Rattle.pm_io.specs.declared.lines.TheConstants.{LF}
 use Rattle.pm_trace.proofs.Columns.{line_at_first, line_at_second, line_at_third}
 use Rattle.pm_trace.specs.Trace.{row_text, start_text, values_text}
-use Rattle.pm_trace.proofs.trace_text.queue_row.Goals as goal
+use Rattle.pm_trace.proofs.trace_text.queue_row_at.Goals as goal
 
 pub returns-clause-text : goal.returns-clause-text
 returns-clause-text g c =

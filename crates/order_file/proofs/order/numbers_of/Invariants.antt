@@ -1,7 +1,7 @@
 use Rattle.std.proofs.Common.{length}
 use Rattle.pm_io.specs.Lines.{lines_of}
 use Rattle.order_file.proofs.Orders.{IsReadSoFar}
-use Rattle.order_file.proofs.order.read_order.Given as goal
+use Rattle.order_file.proofs.order.numbers_of.Given as goal
 
 -- the lines so far are read
 abbrev pub invariant-lines : goal.invariant-lines

@@ -1,6 +1,6 @@
 use Rattle.std.proofs.Common.{rules}
 use Rattle.order_file.proofs.Orders.{line_read, lines_done, number_found}
-use Rattle.order_file.proofs.order.read_order.Goals as goal
+use Rattle.order_file.proofs.order.numbers_of.Goals as goal
 
 pub lines-preserved : goal.lines-preserved
 lines-preserved c =

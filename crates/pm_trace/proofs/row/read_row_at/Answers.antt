@@ -2,7 +2,7 @@ use Rattle.std.proofs.Common.{◌∙◌, sym, ap, ap₂}
 use Rattle.pm_trace.specs.Rows.{filled, give_values}
 use Rattle.pm_trace.specs.Words.{words_of}
 use Rattle.pm_trace.proofs.FilledRows.{no_row, row_read}
-use Rattle.pm_trace.proofs.row.read_row.Goals as goal
+use Rattle.pm_trace.proofs.row.read_row_at.Goals as goal
 
 pub returns-then-not-gives_values : goal.returns-then-not-gives_values
 returns-then-not-gives_values c =

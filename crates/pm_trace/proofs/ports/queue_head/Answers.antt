@@ -1,0 +1,27 @@
+use Rattle.std.proofs.Common.{rules, refl, [], ◌∷◌}
+use Rattle.std.specs.Prelude.{codes}
+use Rattle.pm_io.specs.declared.lines.TheConstants.{LF}
+use Rattle.pm_trace.proofs.Columns.{line_at_first, line_at_second, line_at_third}
+use Rattle.pm_trace.specs.Ports.{head_of, port_names}
+use Rattle.pm_trace.specs.Trace.{names_text}
+use Rattle.pm_trace.proofs.ports.queue_head.Goals as goal
+
+pub returns-clause-text : goal.returns-clause-text
+returns-clause-text g c =
+    line_at_first (g.K.Sink.held c.args.sink.now) (g.K.Sink.held c.put.new.sink) c.args.buffer.now c.put.new.self
+    (codes "cycle reset") (names_text (port_names c.args.plan.now)) (LF ∷ []) (head_of c.args.plan.now) refl (search rules)
+
+pub returns-2-clause-text : goal.returns-2-clause-text
+returns-2-clause-text g c =
+    line_at_second (g.K.Sink.held c.args.sink.now) (g.K.Sink.held c.put.new.sink)
+    (g.K.Sink.held c.queue_port_names.new.sink)
+    c.args.buffer.now c.put.new.self c.queue_port_names.new.buffer (codes "cycle reset")
+    (names_text (port_names c.args.plan.now)) (LF ∷ []) (head_of c.args.plan.now) refl (search rules) (search rules)
+
+pub returns-3-clause-text : goal.returns-3-clause-text
+returns-3-clause-text g c =
+    line_at_third (g.K.Sink.held c.args.sink.now) (g.K.Sink.held c.put.new.sink)
+    (g.K.Sink.held c.queue_port_names.new.sink)
+    (g.K.Sink.held c.put-2.new.sink) c.args.buffer.now c.put.new.self c.queue_port_names.new.buffer c.put-2.new.self
+    (codes "cycle reset") (names_text (port_names c.args.plan.now)) (LF ∷ []) (head_of c.args.plan.now) c.put-2.result
+    refl (search rules) (search rules) c.put-2.ensures.bytes

@@ -1,0 +1,34 @@
+use Rattle.std.proofs.Common.{rules, refl, [], ◌∷◌}
+use Rattle.pm_block.specs.Stored.{at_of}
+use Rattle.pm_io.specs.declared.lines.TheConstants.{LF}
+use Rattle.pm_trace.proofs.Columns.{line_at_first, line_at_second, line_at_third}
+use Rattle.pm_trace.specs.Ports.{is_reset, port_words, row_of}
+use Rattle.pm_trace.specs.Trace.{start_text, values_text}
+use Rattle.pm_trace.proofs.ports.queue_row.Goals as goal
+
+pub returns-clause-text : goal.returns-clause-text
+returns-clause-text g c =
+    let at = at_of c.args.values.now.bits in
+    line_at_first (g.K.Sink.held c.args.sink.now)
+    (g.K.Sink.held c.queue_start.new.sink) c.args.buffer.now c.queue_start.new.buffer
+    (start_text c.args.cycle (is_reset c.args.plan.now at)) (values_text (port_words c.args.plan.now at)) (LF ∷ [])
+    (row_of c.args.plan.now c.args.cycle at) refl (search rules)
+
+pub returns-2-clause-text : goal.returns-2-clause-text
+returns-2-clause-text g c =
+    let at = at_of c.args.values.now.bits in
+    line_at_second (g.K.Sink.held c.args.sink.now) (g.K.Sink.held c.queue_start.new.sink)
+    (g.K.Sink.held c.queue_port_values.new.sink)
+    c.args.buffer.now c.queue_start.new.buffer c.queue_port_values.new.buffer
+    (start_text c.args.cycle (is_reset c.args.plan.now at)) (values_text (port_words c.args.plan.now at)) (LF ∷ [])
+    (row_of c.args.plan.now c.args.cycle at) refl (search rules) (search rules)
+
+pub returns-3-clause-text : goal.returns-3-clause-text
+returns-3-clause-text g c =
+    let at = at_of c.args.values.now.bits in
+    line_at_third (g.K.Sink.held c.args.sink.now) (g.K.Sink.held c.queue_start.new.sink)
+    (g.K.Sink.held c.queue_port_values.new.sink)
+    (g.K.Sink.held c.put.new.sink) c.args.buffer.now c.queue_start.new.buffer c.queue_port_values.new.buffer
+    c.put.new.self (start_text c.args.cycle (is_reset c.args.plan.now at)) (values_text (port_words c.args.plan.now at))
+    (LF ∷ []) (row_of c.args.plan.now c.args.cycle at) c.put.result
+    refl (search rules) (search rules) c.put.ensures.bytes
