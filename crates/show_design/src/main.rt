@@ -2,8 +2,9 @@
 //!
 //! `show_design LAYER FILE TOP [name=value ..]` prints the design of the class TOP after one layer of its way through the
 //! program, or why there is none. The layer `kinds` has the bitstructs, the kinds of component and what each of them
-//! has; the layer `bodies` has the typed bodies of blocks and methods too. The status is that of `pymtl`: 1 for a
-//! design that is refused, 2 for words that mean nothing.
+//! has; the layer `bodies` has the typed bodies of blocks and methods too. The layer `nets` has the instances, with
+//! the net of each bit of their signals. The status is that of `pymtl`: 1 for a design that is refused, 2 for words that
+//! mean nothing.
 //!
 //! `show_design rows` reads rows from its standard input. A row is a title, which begins with `#`, a line
 //! `LAYER TOP [name=value ..]`, and a design up to a line `--`. It prints each title and what becomes of the design.
@@ -14,6 +15,7 @@ mod design;
 mod expressions;
 mod kinds;
 mod members;
+mod nets;
 mod page;
 mod parts;
 mod refusal;

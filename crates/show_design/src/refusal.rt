@@ -1,7 +1,8 @@
 //! Why a design isn't shown, as one line.
 use crate::page::Page;
 use crate::status::Status;
-use pm_io::NoMemory;
+use pm_io::{NoMemory, Text};
+use pm_nets::NetFault;
 use pm_parse::ParseFault;
 use pm_syn::TextFault;
 use pm_types::TypeFault;
@@ -19,6 +20,7 @@ pub enum Refusal {
     Parse(ParseFault),
     Build(BuildFault),
     Type(TypeFault),
+    Net(NetFault),
     NoMemory,
 }
 
@@ -43,6 +45,12 @@ impl From<BuildFault> for Refusal {
 impl From<TypeFault> for Refusal {
     fn from(fault: TypeFault) -> Self {
         Refusal::Type(fault)
+    }
+}
+
+impl From<NetFault> for Refusal {
+    fn from(fault: NetFault) -> Self {
+        Refusal::Net(fault)
     }
 }
 
@@ -74,10 +82,13 @@ impl Refusal {
             | Refusal::Text(TextFault::NoMemory)
             | Refusal::Parse(ParseFault::NoMemory)
             | Refusal::Build(BuildFault::NoMemory)
-            | Refusal::Type(TypeFault::NoMemory) => Status::NoMemory,
-            Refusal::Text(_) | Refusal::Parse(_) | Refusal::Build(_) | Refusal::Type(_) => {
-                Status::Refused
-            }
+            | Refusal::Type(TypeFault::NoMemory)
+            | Refusal::Net(NetFault::NoMemory) => Status::NoMemory,
+            Refusal::Text(_)
+            | Refusal::Parse(_)
+            | Refusal::Build(_)
+            | Refusal::Type(_)
+            | Refusal::Net(_) => Status::Refused,
         }
     }
 }
@@ -91,6 +102,7 @@ pub fn write_refusal(page: &mut Page, refusal: &Refusal) {
         Refusal::Parse(fault) => write_parse_fault(page, fault),
         Refusal::Build(fault) => write_build_fault(page, fault),
         Refusal::Type(fault) => write_type_fault(page, fault),
+        Refusal::Net(fault) => write_net_fault(page, fault),
         Refusal::NoMemory => page.put(b"out of memory"),
     }
     page.put(b"\n");
@@ -144,6 +156,31 @@ fn write_type_fault(page: &mut Page, fault: &TypeFault) {
         TypeFault::BodyTooLong(line) => at_line(page, b"35 BodyTooLong", *line),
         TypeFault::NoMemory => page.put(b"out of memory"),
     }
+}
+
+fn write_net_fault(page: &mut Page, fault: &NetFault) {
+    match fault {
+        NetFault::BadDirection(line) => at_line(page, b"40 BadDirection", *line),
+        NetFault::JoinMismatch(line) => at_line(page, b"41 JoinMismatch", *line),
+        NetFault::MultiWriter(signal, bit) => at_bit(page, b"42 MultiWriter ", signal, *bit),
+        NetFault::NoWriter(signal, bit) => at_bit(page, b"43 NoWriter ", signal, *bit),
+        NetFault::TooManyBits(count) => with_count(page, b"44 TooManyBits ", *count),
+        NetFault::NoCallee(port) => with_name(page, b"45 NoCallee ", port.as_slice()),
+        NetFault::TwoCallees(port) => with_name(page, b"46 TwoCallees ", port.as_slice()),
+        NetFault::MethodCycle(method) => with_name(page, b"47 MethodCycle ", method.as_slice()),
+        NetFault::TooMuchWork(count) => with_count(page, b"48 TooMuchWork ", *count),
+        NetFault::NoMemory => page.put(b"out of memory"),
+    }
+}
+
+fn with_count(page: &mut Page, refusal: &[u8], count: u64) {
+    page.put(refusal);
+    page.put_wide(u128::from(count));
+}
+
+fn at_bit(page: &mut Page, refusal: &[u8], signal: &Text, bit: u32) {
+    with_name(page, refusal, signal.as_slice());
+    page.put_field(b"bit", bit);
 }
 
 fn with_name(page: &mut Page, refusal: &[u8], name: &[u8]) {

@@ -1,4 +1,7 @@
 //! What the words of a command line or of a row ask.
+ghost use Rattle.std.specs.Prelude.{IfOk, IfSome, IsTrue};
+ghost use Rattle.pm_elab_laws.specs.Soundness.{are_good_params, is_good_param};
+
 use crate::refusal::Refusal;
 use pm_elab::{Param, ParamValue};
 use pm_io::{List, Text};
@@ -15,6 +18,8 @@ pub enum Layer {
     Kinds,
     /// Its kinds of component with the typed bodies of blocks and methods.
     Bodies,
+    /// Its instances and their nets.
+    Nets,
 }
 
 /// What is asked: the layer, the top class and its parameters.
@@ -31,7 +36,9 @@ pub fn question_of<'a>(
     layer: &str,
     class: &'a str,
     assignments: &[String],
-) -> Result<Question<'a>, Refusal> {
+) -> Result<Question<'a>, Refusal>
+    ensures { IfOk result (λ question. IsTrue (are_good_params question.params)) }
+{
     let layer = layer_of(layer)?;
     if class.is_empty() {
         return Err(Refusal::Usage);
@@ -47,11 +54,14 @@ fn layer_of(word: &str) -> Result<Layer, Refusal> {
     match word {
         "kinds" => Ok(Layer::Kinds),
         "bodies" => Ok(Layer::Bodies),
+        "nets" => Ok(Layer::Nets),
         _ => Err(Refusal::Usage),
     }
 }
 
-fn params_of(alloc: Global, assignments: &[String]) -> Result<List<Param>, Refusal> {
+fn params_of(alloc: Global, assignments: &[String]) -> Result<List<Param>, Refusal>
+    ensures { IfOk result (λ params. IsTrue (are_good_params params)) }
+{
     let mut params = List::new(alloc);
     for assignment in assignments {
         params.push(param_of(alloc, assignment.as_str())?)?;
@@ -59,7 +69,9 @@ fn params_of(alloc: Global, assignments: &[String]) -> Result<List<Param>, Refus
     Ok(params)
 }
 
-fn param_of(alloc: Global, assignment: &str) -> Result<Param, Refusal> {
+fn param_of(alloc: Global, assignment: &str) -> Result<Param, Refusal>
+    ensures { IfOk result (λ param. IsTrue (is_good_param param.value)) }
+{
     let Some((name, value)) = assignment.split_once('=') else {
         return Err(Refusal::Usage);
     };
@@ -75,25 +87,33 @@ fn param_of(alloc: Global, assignment: &str) -> Result<Param, Refusal> {
 }
 
 // `BitsN`, or an integer as a design spells it, with or without a minus before it.
-fn value_of(alloc: Global, value: &str) -> Result<ParamValue, Refusal> {
+fn value_of(alloc: Global, value: &str) -> Result<ParamValue, Refusal>
+    ensures { IfOk result (λ value. IsTrue (is_good_param value)) }
+{
     if let Some(digits) = value.strip_prefix("Bits") {
-        return width_of(digits)
-            .map(ParamValue::Width)
-            .ok_or(Refusal::Usage);
+        return match width_of(digits) {
+            Some(width) => Ok(ParamValue::Width(width)),
+            None => Err(Refusal::Usage),
+        };
     }
     let integer = match value.strip_prefix("-") {
         Some(size) => negative(size_of(alloc, size)?),
         None => i64::try_from(size_of(alloc, value)?).ok(),
     };
-    integer.map(ParamValue::Int).ok_or(Refusal::Usage)
+    match integer {
+        Some(integer) => Ok(ParamValue::Int(integer)),
+        None => Err(Refusal::Usage),
+    }
 }
 
-fn width_of(digits: &str) -> Option<u32> {
+fn width_of(digits: &str) -> Option<u32>
+    ensures { IfSome result (λ width. IsTrue (is_good_param (ParamValue.Width width))) }
+{
     if digits.starts_with('0') || digits.starts_with('+') {
         return None;
     }
     let width = digits.parse().ok()?;
-    if width > MAX_WIDTH {
+    if width < 1 || width > MAX_WIDTH {
         return None;
     }
     Some(width)
