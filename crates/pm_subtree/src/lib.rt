@@ -9,8 +9,3 @@ pub mod laws;
 mod searching;
 
 pub use cutting::subtree;
-
-#[cfg(test)]
-mod sample;
-#[cfg(test)]
-mod tests;

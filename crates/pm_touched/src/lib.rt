@@ -11,6 +11,3 @@ mod naming;
 
 pub use named::Named;
 pub use naming::names_of;
-
-#[cfg(test)]
-mod tests;

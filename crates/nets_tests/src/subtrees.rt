@@ -1,9 +1,9 @@
 //! Tests of subtrees.
 use crate::sample::sample;
-use crate::subtree;
+use pm_subtree::subtree;
 
 #[test]
-#[tactic(auto, using(crate::proofs::Samples::sample_elaborated))]
+#[tactic(auto, using(pm_subtree::proofs::Samples::sample_elaborated))]
 fn paths_lead_to_components(rt: HostRuntime) {
     let design = sample(rt.alloc()).expect(&rt, "memory");
     let whole = subtree(rt.alloc(), &design, b"s").expect(&rt, "memory");

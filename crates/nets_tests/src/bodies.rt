@@ -1,8 +1,8 @@
 //! Tests of what bodies name.
-use crate::names_of;
 use pm_bits::Op;
 use pm_design::{Callee, Ex, Part, Side, St};
 use pm_io::{Boxed, List, NoMemory};
+use pm_touched::names_of;
 use std::alloc::Global;
 
 fn bit(signal: u32) -> Part {
