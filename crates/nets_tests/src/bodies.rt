@@ -1,5 +1,6 @@
 //! Tests of what bodies name.
 use pm_bits::Op;
+use pm_calls::{asked_methods, called_methods};
 use pm_design::{Callee, Ex, Part, Side, St};
 use pm_io::{Boxed, List, NoMemory};
 use pm_touched::names_of;
@@ -29,14 +30,18 @@ fn body(alloc: Global) -> Result<List<St>, NoMemory> {
     let mut no = List::new(alloc);
     no.push(St::Pop(6, Side::Left, None))?;
     no.push(St::Call(Callee::Own(8), arguments, None))?;
-    let condition = Ex::Bin(
+    let mut body = List::new(alloc);
+    body.push(St::If(condition(alloc)?, yes, no))?;
+    Ok(body)
+}
+
+// `s.d & m.rdy()`.
+fn condition(alloc: Global) -> Result<Ex, NoMemory> {
+    Ok(Ex::Bin(
         Op::And,
         Boxed::new(alloc, Ex::Get(bit(4)))?,
         Boxed::new(alloc, Ex::Ready(Callee::Port(9)))?,
-    );
-    let mut body = List::new(alloc);
-    body.push(St::If(condition, yes, no))?;
-    Ok(body)
+    ))
 }
 
 #[test]
@@ -49,4 +54,14 @@ fn bodies_name_parts_states_and_callees(rt: HostRuntime) {
     assert!(rt; named.state_writes.as_slice() == [6].as_slice());
     assert!(rt; named.asked.as_slice() == [Callee::Port(9)].as_slice());
     assert!(rt; named.called.as_slice() == [Callee::Own(8)].as_slice());
+}
+
+#[test]
+fn bodies_call_methods_and_ask_whether_they_are_ready(rt: HostRuntime) {
+    let body = body(rt.alloc()).expect(&rt, "memory");
+    let called = called_methods(rt.alloc(), body.as_slice()).expect(&rt, "memory");
+    assert!(rt; called.as_slice() == [Callee::Own(8)].as_slice());
+    let condition = condition(rt.alloc()).expect(&rt, "memory");
+    let asked = asked_methods(rt.alloc(), &condition).expect(&rt, "memory");
+    assert!(rt; asked.as_slice() == [Callee::Port(9)].as_slice());
 }

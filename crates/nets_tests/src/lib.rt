@@ -1,4 +1,4 @@
-//! Tests of disjoint sets, nets, subtrees, and of what bodies name.
+//! Tests of disjoint sets, nets, subtrees, and of what bodies name and call.
 #![tactic(auto)]
 
 #[cfg(test)]
